@@ -23,6 +23,7 @@ use Rattle.words.specs.declared.word.Fixed.the-variants as F
 use Rattle.words.specs.Bytes.{letter, digit, alnum, allowed, every, runs-to, cut}
 use Rattle.words.specs.Words.{Lex, name, number, text, fixed, end, Spelt, Scanned, hit, moves, keyword, begins, is-name, named, name-at, value, limited, numbered, number-at, text-to, text-at, begun, word-at}
 use Rattle.words.specs.Laws.{spelling-of, Spells, a-name, a-number, a-text, a-fixed}
+use Rattle.words.proofs.Value.{limited-some}
 use Rattle.words.proofs.Runs.{run-every, run-le, cut-cons, cut-more, cut-none}
 
 -- one entry of the chain of keywords
@@ -56,7 +57,7 @@ Right t p s = (s .place ≡ p) × (moves (s .lex) ≡ 1) × (p < s .next) × (s 
 pub within : (p : ℕ → Bool) → p 0 ≡ false → (t : List ℕ) (i : ℕ) → p (getD t i 0) ≡ true → i < length t
 within p z t i e = ⊎-elim (λ h. h) (λ h. absurd (both-ways (p (getD t i 0)) (ap p (getD-past t i 0 h) ∙ z) e)) (cases-lt i (length t))
 
-run-some : (p : ℕ → Bool) (t : List ℕ) (q : ℕ) → q < length t → p (getD t q 0) ≡ true → q + 1 ≤ runs-to p t q
+pub run-some : (p : ℕ → Bool) (t : List ℕ) (q : ℕ) → q < length t → p (getD t q 0) ≡ true → q + 1 ≤ runs-to p t q
 run-some p t q h y = omega (arith, leading-drop-yes p t q 0 h y)
 
 named-moves : (w : List ℕ) (o : Option Fixed) → moves (named w o) ≡ 1
@@ -75,14 +76,7 @@ module _ (t : List ℕ) (p : ℕ) (h : p < length t) where
   numbered-right : (q : ℕ) (d : ℕ) (ds : List ℕ) (o : Option ℕ) → cut t p q ≡ d ∷ ds → every digit (cut t p q) ≡ true → limited (value 0 (cut t p q)) ≡ o → p + 1 ≤ q → q ≤ length t →
     made (numbered (cut t p q) p q o) (Right t p)
   numbered-right q d ds (Some v) c a e s l =
-      (refl, refl, omega arith, l, subst (λ n. Spells (cut t p q) (number (cut t p q) n)) (is-value (value 0 (cut t p q)) e) (subst (λ u. Spells u (number u (value 0 u))) (sym c) (a-number d ds (subst (λ u. every digit u ≡ true) c a))))
-    where
-      is-value : (n : ℕ) → limited n ≡ Some v → n ≡ v
-      is-value n e =
-          ⊎-elim
-          (λ y. absurd (let z : _≡_ {A = ℕ} 0 1 = (let c = sym (cond-true (ltb 4294967295 n) None (Some n) y) ∙ e in cc) in omega arith))
-          (λ y. let c = sym (cond-false (ltb 4294967295 n) None (Some n) y) ∙ e in cc)
-          (cases-bool (ltb 4294967295 n))
+      (refl, refl, omega arith, l, subst (λ n. Spells (cut t p q) (number (cut t p q) n)) (sym (limited-some (value 0 (cut t p q)) v (sym e) .0)) (subst (λ u. Spells u (number u (value 0 u))) (sym c) (a-number d ds (subst (λ u. every digit u ≡ true) c a))))
   numbered-right q d ds None c a e s l = tt
 
   number-right : digit (getD t p 0) ≡ true → made (number-at t p) (Right t p)

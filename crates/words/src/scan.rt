@@ -1,13 +1,13 @@
 // The scanner: the word at a place, or its fault.
 ghost use mathlib.Core.Path.{_≡_};
 ghost use mathlib.Core.Bool.{true};
-ghost use Prim.Native.Nat.{_+_, _-_, _<_, _≤_, min};
+ghost use Prim.Native.Nat.{_+_, _-_, _*_, _<_, _≤_, min};
 ghost use lib.Dec.{eqb};
 ghost use lib.ListN.{length, getD};
 ghost use Rattle.std.specs.Vec.{made};
 ghost use Rattle.std.specs.declared.result.Result.the-variants.{Ok};
 ghost use Rattle.words.specs.Bytes.{alnum, digit};
-ghost use Rattle.words.specs.Words.{told, meant, moves, value, limited, name-at, number-at, text-at, word-at, after};
+ghost use Rattle.words.specs.Words.{told, meant, moves, keyword, named as named-as, largest, value, limited, name-at, number-at, text-at, word-at, after};
 
 use crate::byte::Class;
 use crate::byte::run_end;
@@ -24,17 +24,33 @@ pub const LONGEST: usize = 80;
 // The largest number.
 pub const LARGEST: u64 = 4294967295;
 
+// A run of letters and digits: a keyword, or else a name.
+fn named<'a>(spelling: &'a [u8], place: usize, next: usize) -> Token<'a>
+    ensures is { λ r. ⌜ meant (r .word) ≡ named-as (now (spelling .entry)) (keyword (now (spelling .entry))) ⌝ }
+    ensures at { λ r. ⌜ (r .place ≡ place) × (r .next ≡ next) × (moves (meant (r .word)) ≡ 1) ⌝ }
+{
+    match keyword_of(spelling) {
+        Some(fixed) => Token { word: Word::Fixed(fixed), place, next },
+        None => Token { word: Word::Name(spelling), place, next },
+    }
+}
+
 fn name_at<'a>(text: &'a [u8], at: usize) -> Token<'a>
     requires { ⌜ at < length (now text) ⌝ ∗ ⌜ alnum (getD (now text) at 0) ≡ true ⌝ }
     ensures is { λ r. ⌜ told (Ok r) ≡ name-at (now (text .entry)) at ⌝ }
     ensures on { λ r. ⌜ (r .next ≤ length (now (text .entry))) × (at + moves (meant (r .word)) ≤ r .next) × (r .place ≤ r .next) ⌝ }
 {
     let next = run_end(text, Class::Alnum, at);
-    let spelling = &text[at..next];
-    match keyword_of(spelling) {
-        Some(fixed) => Token { word: Word::Fixed(fixed), place: at, next },
-        None => Token { word: Word::Name(spelling), place: at, next },
-    }
+    named(&text[at..next], at, next)
+}
+
+// The number `v` with one digit more, where that is no larger than a number may be.
+fn with_digit(v: u64, digit: u8) -> Option<u64>
+    requires { ⌜ v ≤ largest ⌝ }
+    ensures { λ r. ⌜ r ≡ limited (v * 10 + (digit - 48)) ⌝ }
+{
+    let more = v * 10 + digit.saturating_sub(b'0') as u64;
+    if more > LARGEST { None } else { Some(more) }
 }
 
 // The number that the digits spell, where it is no larger than a number may be.
@@ -43,9 +59,9 @@ fn value_of(digits: &[u8]) -> Option<u32>
 {
     let mut v: u64 = 0;
     for d in digits {
-        v = v * 10 + d.saturating_sub(48) as u64;
-        if v > LARGEST {
-            return None;
+        match with_digit(v, *d) {
+            Some(more) => v = more,
+            None => return None,
         }
     }
     Some(v as u32)

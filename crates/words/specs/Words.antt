@@ -1,7 +1,7 @@
 -- The word at a place of a text, or its fault.
 use mathlib.Core.Bool.{Bool, true, false, cond, _||_, _&&_, not}
 use mathlib.Core.List.{List, [], _∷_}
-use Prim.Native.Nat.{ℕ, _+_, _-_, _*_, min}
+use Prim.Native.Nat.{ℕ, _+_, _-_, _*_, _≤_, min}
 use lib.Chars.{codes}
 use lib.Dec.{leb, ltb, eqb}
 use lib.ListN.{length, getD}
@@ -61,6 +61,10 @@ moves (number w v) = 1
 moves (text w) = 1
 moves (fixed w) = 1
 moves end = 0
+
+-- a word handed out from p on stands in the text, and takes the bytes that it should
+abbrev pub Stands : List ℕ → ℕ → Token → Type 0
+Stands t p w = (p ≤ w .place) × (w .place + moves (meant (w .word)) ≤ w .next) × (w .next ≤ length t)
 
 abbrev pub keyword : List ℕ → Option Fixed
 keyword w =

@@ -7,7 +7,7 @@ ghost use lib.ListN.{length, getD};
 ghost use Rattle.std.specs.Vec.{made};
 ghost use Rattle.std.specs.declared.result.Result.the-variants.{Ok};
 ghost use Rattle.words.specs.Bytes.{alnum, digit};
-ghost use Rattle.words.specs.Words.{told, meant, moves, keyword, named as named-as, largest, value, limited, name-at, number-at, text-at, word-at, after};
+ghost use Rattle.words.specs.Words.{told, meant, moves, Stands, keyword, named as named-as, largest, value, limited, name-at, number-at, text-at, word-at, after};
 
 use crate::byte::Class;
 use crate::byte::run_end;
@@ -38,7 +38,7 @@ fn named<'a>(spelling: &'a [u8], place: usize, next: usize) -> Token<'a>
 fn name_at<'a>(text: &'a [u8], at: usize) -> Token<'a>
     requires { ⌜ at < length (now text) ⌝ ∗ ⌜ alnum (getD (now text) at 0) ≡ true ⌝ }
     ensures is { λ r. ⌜ told (Ok r) ≡ name-at (now (text .entry)) at ⌝ }
-    ensures on { λ r. ⌜ (r .next ≤ length (now (text .entry))) × (at + moves (meant (r .word)) ≤ r .next) × (r .place ≤ r .next) ⌝ }
+    ensures on { λ r. ⌜ Stands (now (text .entry)) at r ⌝ }
 {
     let next = run_end(text, Class::Alnum, at);
     named(&text[at..next], at, next)
@@ -70,7 +70,7 @@ fn value_of(digits: &[u8]) -> Option<u32>
 fn number_at<'a>(text: &'a [u8], at: usize) -> Result<Token<'a>, Fault>
     requires { ⌜ at < length (now text) ⌝ ∗ ⌜ digit (getD (now text) at 0) ≡ true ⌝ }
     ensures is { λ r. ⌜ told r ≡ number-at (now (text .entry)) at ⌝ }
-    ensures on { λ r. ⌜ made r (λ t. (t .next ≤ length (now (text .entry))) × (at + moves (meant (t .word)) ≤ t .next) × (t .place ≤ t .next)) ⌝ }
+    ensures on { λ r. ⌜ made r (Stands (now (text .entry)) at) ⌝ }
 {
     let next = run_end(text, Class::Digit, at);
     let digits = &text[at..next];
@@ -84,7 +84,7 @@ fn number_at<'a>(text: &'a [u8], at: usize) -> Result<Token<'a>, Fault>
 fn text_at<'a>(text: &'a [u8], at: usize) -> Result<Token<'a>, Fault>
     requires { ⌜ at < length (now text) ⌝ }
     ensures is { λ r. ⌜ told r ≡ text-at (now (text .entry)) at ⌝ }
-    ensures on { λ r. ⌜ made r (λ t. (t .next ≤ length (now (text .entry))) × (at + moves (meant (t .word)) ≤ t .next) × (t .place ≤ t .next)) ⌝ }
+    ensures on { λ r. ⌜ made r (Stands (now (text .entry)) at) ⌝ }
 {
     let end = run_end(text, Class::Allowed, at + 1);
     if end >= text.len() {
@@ -118,7 +118,7 @@ fn next_is(text: &[u8], at: usize, b: u8) -> bool
 fn word_at<'a>(text: &'a [u8], at: usize) -> Result<Token<'a>, Fault>
     requires { ⌜ at ≤ length (now text) ⌝ }
     ensures is { λ r. ⌜ told r ≡ word-at (now (text .entry)) at ⌝ }
-    ensures on { λ r. ⌜ made r (λ t. (t .next ≤ length (now (text .entry))) × (at + moves (meant (t .word)) ≤ t .next) × (t .place ≤ t .next)) ⌝ }
+    ensures on { λ r. ⌜ made r (Stands (now (text .entry)) at) ⌝ }
 {
     if at >= text.len() {
         return Ok(Token { word: Word::End, place: at, next: at });
@@ -154,7 +154,7 @@ fn word_at<'a>(text: &'a [u8], at: usize) -> Result<Token<'a>, Fault>
 // The first word from `at` on, or its fault; at or behind the end of the text, the end.
 pub fn next_word<'a>(text: &'a [u8], at: usize) -> Result<Token<'a>, Fault>
     ensures is { λ r. ⌜ told r ≡ after (now (text .entry)) at ⌝ }
-    ensures on { λ r. ⌜ made r (λ t. (t .next ≤ length (now (text .entry))) × (min at (length (now (text .entry))) + moves (meant (t .word)) ≤ t .next) × (t .place ≤ t .next)) ⌝ }
+    ensures on { λ r. ⌜ made r (Stands (now (text .entry)) (min at (length (now (text .entry))))) ⌝ }
 {
     let from = at.min(text.len());
     let place = run_end(text, Class::Layout, from);

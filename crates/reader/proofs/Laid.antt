@@ -142,3 +142,33 @@ pub ends-by : {C D : Type 0} (before : C → State) (after : C → Tree → Stat
 ends-by before after before′ after′ t w w′ f n xs ys (Ok a) h g i j =
     record { tree = h .tree; count = h .count; nodes = h .nodes; goes-on = λ c. i c ∙ (h .goes-on (g c) ∙ j c (h .tree) (token (a .token))) }
 ends-by before after before′ after′ t w w′ f n xs ys (Err e) h g i j = λ c. i c ∙ h (g c)
+
+-- two trees and a node of kind k above them
+pub laid-two : (f : Part → ℕ) (xs ys : List Node) (n : ℕ) (x y : Tree) (k c1 c2 : ℕ) → c1 ≡ n + size x → c2 ≡ c1 + size y →
+  ys ≡ write (write (write xs n (lay f n x)) c1 (lay f c1 y)) c2 (node k (c1 - 1) (c2 - 1) 0 ∷ []) →
+  ys ≡ write xs n (lay f n x ++ (lay f (n + size x) y ++ (node k (n + size x - 1) (n + size x + size y - 1) 0 ∷ [])))
+laid-two f xs ys n x y k c1 c2 e d h =
+    let d2 : c2 ≡ n + size x + size y = omega arith in
+    h ∙ (write-two f xs n x y (node k (c1 - 1) (c2 - 1) 0) c1 c2 e d
+    ∙ ap (λ (b : Node). write xs n (lay f n x ++ (lay f (n + size x) y ++ (b ∷ [])))) (ap (λ i. node k (i - 1) (c2 - 1) 0) e ∙ ap (λ i. node k (n + size x - 1) (i - 1) 0) d2))
+
+-- three trees and a choice above them
+pub laid-choice : (f : Part → ℕ) (xs ys : List Node) (n : ℕ) (x y z : Tree) (c1 c2 c3 : ℕ) → c1 ≡ n + size x → c2 ≡ c1 + size y → c3 ≡ c2 + size z →
+  ys ≡ write (write (write (write xs n (lay f n x)) c1 (lay f c1 y)) c2 (lay f c2 z)) c3 (node 8 (c1 - 1) (c2 - 1) (c3 - 1) ∷ []) → ys ≡ write xs n (lay f n (choose x y z))
+laid-choice f xs ys n x y z c1 c2 c3 e d g h =
+    let d2 : c2 ≡ n + size x + size y = omega arith in
+    let d3 : c3 ≡ n + size x + size y + size z = omega arith in
+    let b = node 8 (c1 - 1) (c2 - 1) (c3 - 1) in
+    h ∙ (write-two f (write xs n (lay f n x)) c1 y z b c2 c3 d g
+    ∙ (write-on xs n (lay f n x) (lay f c1 y ++ (lay f (c1 + size y) z ++ (b ∷ []))) c1 (omega (arith, length-lay f n x))
+    ∙ (ap (λ i. write xs n (lay f n x ++ (lay f i y ++ (lay f (i + size y) z ++ (b ∷ []))))) e
+    ∙ ap (λ (b : Node). write xs n (lay f n x ++ (lay f (n + size x) y ++ (lay f (n + size x + size y) z ++ (b ∷ [])))))
+      (ap (λ i. node 8 (i - 1) (c2 - 1) (c3 - 1)) e ∙ (ap (λ i. node 8 (n + size x - 1) (i - 1) (c3 - 1)) d2 ∙ ap (λ i. node 8 (n + size x - 1) (n + size x + size y - 1) (i - 1)) d3)))))
+
+pub laid-assign : (f : Part → ℕ) (xs ys : List Node) (n : ℕ) (p : Part) (e : Tree) (c : ℕ) → c ≡ n + 1 + size e →
+  ys ≡ write (write (write xs n (node 2 (p .place) (p .size) (f p) ∷ [])) (n + 1) (lay f (n + 1) e)) c (node 7 n (c - 1) 0 ∷ []) → ys ≡ write xs n (lay f n (assign p e))
+laid-assign f xs ys n p e c i h =
+    let d : c - 1 ≡ n + size e = omega arith in
+    let v = node 2 (p .place) (p .size) (f p) in
+    h ∙ (write-on (set xs n v) (n + 1) (lay f (n + 1) e) (node 7 n (c - 1) 0 ∷ []) c (omega (arith, length-lay f (n + 1) e))
+    ∙ ap (λ k. write (set xs n v) (n + 1) (lay f (n + 1) e ++ (node 7 n k 0 ∷ []))) d)

@@ -2,7 +2,7 @@
 use mathlib.Core.Bool.{Bool, true, false, cond, _||_}
 use mathlib.Core.Path.{_≡_}
 use mathlib.Core.List.{List}
-use Prim.Native.Nat.{ℕ, _+_, _-_, _<_, _≤_}
+use Prim.Native.Nat.{ℕ, _+_, _-_, _*_, _<_, _≤_}
 use lib.ListN.{length}
 use Rattle.std.specs.declared.option.Option.{Option}
 use Rattle.std.specs.declared.option.Option.the-variants.{Some, None}
@@ -20,6 +20,8 @@ use Rattle.grammar.specs.Grammar.{Part, Tree, fixed, name, number, text}
 use Rattle.grammar.specs.Machine.{same, State, place, fault}
 use Rattle.grammar.specs.Scan.{Found, word, nothing-left, wrong}
 use Rattle.reader.specs.declared.step.Ahead.{Ahead}
+use Rattle.reader.specs.declared.statement.Start.{Start}
+use Rattle.reader.specs.declared.statement.Start.the-variants as S
 use Rattle.reader.specs.Text.{found, token, at}
 use Rattle.reader.specs.Layout.{halves, size, lay, write}
 
@@ -80,3 +82,28 @@ Room t w n = (length t ≤ 4096) × (n + (length t - w .place) ≤ 60000)
 -- reading moves on from the word w, with a node or more, and no more nodes than bytes
 abbrev pub Moves-on : List ℕ → Token → ℕ → Ahead → Type 0
 Moves-on t w n a = Stands t (w .place + 1) (a .token) × (n < a .count) × (a .count + w .place ≤ n + a .token .place)
+
+-- how the word in hand begins a statement
+abbrev pub start-of : Found → Start
+start-of (word (fixed v p) q) = cond (same v F.If) S.Choice (cond (same v F.While) S.Repeat S.Other)
+start-of (word (name n) q) = S.Assignment
+start-of (word (number v p) q) = S.Other
+start-of (word (text n) q) = S.Other
+start-of (nothing-left z) = S.Other
+start-of (wrong m z) = S.Other
+
+abbrev pub begins : Start → Bool
+begins S.Assignment = true
+begins S.Choice = true
+begins S.Repeat = true
+begins S.Other = false
+
+-- the same as `Room`, for statements and series, which may have two nodes to a byte
+abbrev pub Space : List ℕ → Token → ℕ → Type 0
+Space t w n = (length t ≤ 4096) × (n + 2 * (length t - w .place) ≤ 50000)
+
+abbrev pub Past-statement : List ℕ → Token → ℕ → Ahead → Type 0
+Past-statement t w n a = Stands t (w .place + 1) (a .token) × (n < a .count) × (a .count + 2 * w .place + 2 ≤ n + 2 * a .token .place)
+
+abbrev pub Past-series : List ℕ → Token → ℕ → Ahead → Type 0
+Past-series t w n a = Stands t (w .place) (a .token) × (n < a .count) × (a .count + 2 * w .place ≤ n + 2 * a .token .place + 1)

@@ -25,7 +25,7 @@ pub struct Ahead<'a> {
     pub count: u16,
 }
 
-fn same(a: Fixed, b: Fixed) -> bool
+pub(crate) fn same(a: Fixed, b: Fixed) -> bool
     ensures { λ r. ⌜ r ≡ same-word a b ⌝ }
 {
     a as u8 == b as u8

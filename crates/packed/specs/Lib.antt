@@ -1,0 +1,4 @@
+pub mod Capacity
+pub mod Starts
+pub mod Model
+pub mod Kept

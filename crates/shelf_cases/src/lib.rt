@@ -1,0 +1,5 @@
+// What holds of every shelf, tried on both makes.
+pub mod drive;
+pub mod layer;
+#[cfg(test)]
+mod tests;

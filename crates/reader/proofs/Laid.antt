@@ -15,16 +15,20 @@ use Rattle.nodes.specs.Nodes.{node}
 use Rattle.std.specs.declared.result.Result.{Result}
 use Rattle.std.specs.declared.result.Result.the-variants.{Ok, Err}
 use Rattle.words.specs.declared.word.Fault.{Fault}
+use Rattle.words.specs.declared.word.Token as W
+use Rattle.reader.specs.declared.declarations.Typed.{Typed}
 use Rattle.words.specs.declared.word.Refusal.the-variants as R
 use Rattle.words.specs.Words.{Lex}
 use Rattle.words.specs.Words as L
+use Rattle.spelling.specs.declared.Entry.{Entry}
+use Rattle.reader.specs.declared.names.Declared.{Declared}
 use Rattle.reader.specs.declared.step.Ahead.{Ahead}
-use Rattle.grammar.specs.Grammar.{Open, Plus, Join, Part, Token, fixed, name, number, text, Tree, variable, constant, letters, plus, join, assign, choose, loop, none, more, first, also, sheet}
-use Rattle.grammar.specs.Machine.{same, Before, start, sum, chain, For, group, State, term, tail, leaving, with, go, fault}
+use Rattle.grammar.specs.Grammar.{Open, Plus, Join, Part, Sort, Token, fixed, name, number, text, Tree, variable, constant, letters, plus, join, assign, choose, loop, none, more, first, also, sheet}
+use Rattle.grammar.specs.Machine.{same, Given, naming, sorting, declared, Before, start, sum, chain, For, group, State, term, tail, leaving, with, go, fault}
 use Rattle.grammar.specs.Scan.{Found, word, nothing-left, wrong}
 use Rattle.reader.specs.Text.{seen-as, found, token, at}
-use Rattle.reader.specs.Layout.{size, lay, write}
-use Rattle.reader.specs.Parts.{is-word, behind, expected, leaf-of, joint-of, Reads, Read-as}
+use Rattle.reader.specs.Layout.{declaration, entry, entries, size, lay, write}
+use Rattle.reader.specs.Parts.{is-word, behind, expected, leaf-of, joint-of, Reads, Read-as, Typed-as, Declared-as, Listed, Listed-as}
 use Rattle.reader.proofs.Steps.{apart, leaf-at, plus-at, join-at, no-joint-at, open-at, no-open-at}
 
 pub write-append : {X : Type 0} (xs : List X) (i : ℕ) (us vs : List X) → write xs i (us ++ vs) ≡ write (write xs i us) (i + length us) vs
@@ -172,3 +176,28 @@ laid-assign f xs ys n p e c i h =
     let v = node 2 (p .place) (p .size) (f p) in
     h ∙ (write-on (set xs n v) (n + 1) (lay f (n + 1) e) (node 7 n (c - 1) 0 ∷ []) c (omega (arith, length-lay f (n + 1) e))
     ∙ ap (λ k. write (set xs n v) (n + 1) (lay f (n + 1) e ++ (node 7 n k 0 ∷ []))) d)
+
+-- the same for types, declarations, and several of them
+pub type-refused : (t : List ℕ) (w : Found) (r : Result Typed Fault) (e : Fault) → r ≡ Err e → ((g : Given) (n : Part) → at t (sorting g n) w ≡ fault (e .refusal) (e .place)) → Typed-as t w r
+type-refused t w r e i h = subst (λ (x : Result Typed Fault). Typed-as t w x) (sym i) h
+
+pub declaration-refused : (t : List ℕ) (w : Found) (n : ℕ) (xs ys : List Node) (es ds : List (Entry Declared)) (r : Result W.Token Fault) (e : Fault) → r ≡ Err e →
+  ((g : Given) → at t (naming g) w ≡ fault (e .refusal) (e .place)) → Declared-as t w n xs ys es ds r
+declaration-refused t w n xs ys es ds r e i h = subst (λ (x : Result W.Token Fault). Declared-as t w n xs ys es ds x) (sym i) h
+
+pub list-refused : (t : List ℕ) (d : Tree) (w : Found) (xs ys : List Node) (es ds : List (Entry Declared)) (r : Result Ahead Fault) (e : Fault) → r ≡ Err e →
+  at t (declared d) w ≡ fault (e .refusal) (e .place) → Listed-as t d w xs ys es ds r
+list-refused t d w xs ys es ds r e i h = subst (λ (x : Result Ahead Fault). Listed-as t d w xs ys es ds x) (sym i) h
+
+-- one declaration more
+pub listed-more : (d : Tree) (n : ℕ) (xs ys zs : List Node) (es ds fs : List (Entry Declared)) (p : Part) (s : Sort) → Listed d n xs ys es ds → zs ≡ write ys n (declaration p s ∷ []) → fs ≡ write ds n (entry p s n ∷ []) →
+  Listed (also d p s) (n + 1) xs zs es fs
+listed-more d n xs ys zs es ds fs p s l h k = record {
+  count = omega (arith, l .count);
+  sized = simp length-append (omega (arith, l .sized));
+  nodes = λ f. h ∙ (ap (λ (y : List Node). write y n (declaration p s ∷ [])) (l .nodes f) ∙ write-on xs 0 (lay f 0 d) (declaration p s ∷ []) n (omega (arith, l .count, length-lay f 0 d)));
+  names = k ∙ (ap (λ (y : List (Entry Declared)). write y n (entry p s n ∷ [])) (l .names) ∙ (write-on es 0 (entries d) (entry p s n ∷ []) n (omega (arith, l .count, l .sized)) ∙ ap (λ i. write es 0 (entries d ++ (entry p s i ∷ []))) (l .count)));
+}
+
+pub listed-first : (xs ys : List Node) (es ds : List (Entry Declared)) (p : Part) (s : Sort) → ys ≡ write xs 0 (declaration p s ∷ []) → ds ≡ write es 0 (entry p s 0 ∷ []) → Listed (first p s) 1 xs ys es ds
+listed-first xs ys es ds p s h k = record { count = refl; sized = refl; nodes = λ f. h; names = k }

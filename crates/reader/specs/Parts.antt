@@ -1,7 +1,7 @@
 -- What each part of the reader answers and writes.
 use mathlib.Core.Bool.{Bool, true, false, cond, _||_}
 use mathlib.Core.Path.{_≡_}
-use mathlib.Core.List.{List}
+use mathlib.Core.List.{List, [], _∷_}
 use Prim.Native.Nat.{ℕ, _+_, _-_, _*_, _<_, _≤_}
 use lib.ListN.{length}
 use Rattle.std.specs.declared.option.Option.{Option}
@@ -16,14 +16,17 @@ use Rattle.words.specs.declared.word.Token.{Token}
 use Rattle.words.specs.declared.word.Fault.{Fault}
 use Rattle.words.specs.declared.word.Refusal.the-variants as R
 use Rattle.nodes.specs.declared.node.Node.{Node}
-use Rattle.grammar.specs.Grammar.{Part, Tree, fixed, name, number, text}
-use Rattle.grammar.specs.Machine.{same, State, place, fault}
+use Rattle.grammar.specs.Grammar.{Part, Sort, Tree, fixed, name, number, text}
+use Rattle.grammar.specs.Machine.{same, State, place, fault, Given, declare, naming, sorting, declared, series, whole}
 use Rattle.grammar.specs.Scan.{Found, word, nothing-left, wrong}
 use Rattle.reader.specs.declared.step.Ahead.{Ahead}
+use Rattle.spelling.specs.declared.Entry.{Entry}
+use Rattle.reader.specs.declared.names.Declared.{Declared}
+use Rattle.reader.specs.declared.declarations.Typed.{Typed}
 use Rattle.reader.specs.declared.statement.Start.{Start}
 use Rattle.reader.specs.declared.statement.Start.the-variants as S
 use Rattle.reader.specs.Text.{found, token, at}
-use Rattle.reader.specs.Layout.{halves, size, lay, write}
+use Rattle.reader.specs.Layout.{halves, kind-of, declaration, entry, entries, size, lay, write}
 
 -- the word in hand is the fixed word w
 abbrev pub is-word : Fixed → Found → Bool
@@ -107,3 +110,42 @@ Past-statement t w n a = Stands t (w .place + 1) (a .token) × (n < a .count) ×
 
 abbrev pub Past-series : List ℕ → Token → ℕ → Ahead → Type 0
 Past-series t w n a = Stands t (w .place) (a .token) × (n < a .count) × (a .count + 2 * w .place ≤ n + 2 * a .token .place + 1)
+
+-- Reading the type of a declaration, with the word w in hand.
+pub record Types (t : List ℕ) (w : Found) (a : Typed) : Type 0 where
+  pub sort : Sort
+  pub kind : a .kind ≡ kind-of sort
+  pub goes-on : (g : Given) (n : Part) → at t (sorting g n) w ≡ at t (declared (declare g n sort)) (token (a .token))
+
+abbrev pub Typed-as : List ℕ → Found → Result Typed Fault → Type 0
+Typed-as t w (Ok a) = Types t w a
+Typed-as t w (Err e) = (g : Given) (n : Part) → at t (sorting g n) w ≡ fault (e .refusal) (e .place)
+
+-- Reading a declaration, the n-th: its node and its entry in the table of names.
+pub record Declares (t : List ℕ) (w : Found) (n : ℕ) (xs ys : List Node) (es ds : List (Entry Declared)) (a : Token) : Type 0 where
+  pub part : Part
+  pub sort : Sort
+  pub nodes : ys ≡ write xs n (declaration part sort ∷ [])
+  pub names : ds ≡ write es n (entry part sort n ∷ [])
+  pub goes-on : (g : Given) → at t (naming g) w ≡ at t (declared (declare g part sort)) (token a)
+
+abbrev pub Declared-as : List ℕ → Found → ℕ → List Node → List Node → List (Entry Declared) → List (Entry Declared) → Result Token Fault → Type 0
+Declared-as t w n xs ys es ds (Ok a) = Declares t w n xs ys es ds a
+Declared-as t w n xs ys es ds (Err e) = (g : Given) → at t (naming g) w ≡ fault (e .refusal) (e .place)
+
+-- the declarations d have been read: their nodes from xs on, their entries from es on
+pub record Listed (d : Tree) (n : ℕ) (xs ys : List Node) (es ds : List (Entry Declared)) : Type 0 where
+  pub count : n ≡ size d
+  pub sized : length (entries d) ≡ size d
+  pub nodes : (f : Part → ℕ) → ys ≡ write xs 0 (lay f 0 d)
+  pub names : ds ≡ write es 0 (entries d)
+
+-- Reading the declarations that follow the declarations d, up to the `;`.
+pub record Lists (t : List ℕ) (d : Tree) (w : Found) (xs ys : List Node) (es ds : List (Entry Declared)) (a : Ahead) : Type 0 where
+  pub tree : Tree
+  pub listed : Listed tree (a .count) xs ys es ds
+  pub goes-on : at t (declared d) w ≡ at t (series (whole tree)) (token (a .token))
+
+abbrev pub Listed-as : List ℕ → Tree → Found → List Node → List Node → List (Entry Declared) → List (Entry Declared) → Result Ahead Fault → Type 0
+Listed-as t d w xs ys es ds (Ok a) = Lists t d w xs ys es ds a
+Listed-as t d w xs ys es ds (Err e) = at t (declared d) w ≡ fault (e .refusal) (e .place)

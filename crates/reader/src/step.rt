@@ -10,7 +10,6 @@ ghost use Rattle.grammar.specs.Scan.{wrong};
 ghost use Rattle.reader.specs.Text.{found, token as token-of, outcome};
 ghost use Rattle.reader.specs.Layout.{write};
 ghost use Rattle.reader.specs.Parts.{is-word, unexpected as unexpected-at, behind, expected};
-use nodes::node::Node;
 use words::next_word;
 use words::word::Fault;
 use words::word::Fixed;
@@ -69,11 +68,11 @@ pub(crate) fn expect<'a>(text: &'a [u8], token: Token<'a>, wanted: Fixed) -> Res
     if is(token, wanted) { step(text, token) } else { Err(unexpected(token)) }
 }
 
-// Writes the node at the count, if there is a place.
-pub(crate) fn put(out: &mut [Node], count: u16, node: Node)
-    ensures { λ _. ⌜ now (out .exit) ≡ write (now (out .entry)) count (node ∷ []) ⌝ }
+// Writes the item at the count, if there is a place.
+pub(crate) fn put<T: Copy>(out: &mut [T], count: u16, item: T)
+    ensures { λ _. ⌜ now (out .exit) ≡ write (now (out .entry)) count (item ∷ []) ⌝ }
 {
     if (count as usize) < out.len() {
-        out[count as usize] = node;
+        out[count as usize] = item;
     }
 }

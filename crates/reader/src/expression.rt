@@ -14,6 +14,7 @@ ghost use Rattle.reader.specs.Layout.{halves, number-in, size, lay, write};
 ghost use Rattle.reader.specs.Parts.{leaf-of, joint-of, Room, Moves-on, Read-as};
 use crate::names::Declared;
 use crate::step::Ahead;
+use crate::step::above;
 use crate::step::expect;
 use crate::step::is;
 use crate::step::put;
@@ -102,11 +103,20 @@ fn more<'a>(text: &'a [u8], names: &[Entry<Declared>], left: Ahead<'a>, out: &mu
         None => Ok(left),
         Some(kind) => {
             let start = step(text, left.token)?;
-            let right = term(text, names, start, out, left.count)?;
-            put(out, right.count, Node { kind, a: left.count - 1, b: right.count - 1, c: 0 });
+            let right = operand(text, names, start, out, left.count)?;
+            put(out, right.count, above(kind, left.count, right.count));
             more(text, names, Ahead { token: right.token, count: right.count + 1 }, out)
         }
     }
+}
+
+// The right operand: one term, so that terms are joined from left to right.
+fn operand<'a>(text: &'a [u8], names: &[Entry<Declared>], token: Token<'a>, out: &mut [Node], count: u16) -> Result<Ahead<'a>, Fault>
+    requires { ⌜ Stands (now text) 0 token × Room (now text) token count ⌝ }
+    ensures on { λ r. ⌜ made r (Moves-on (now (text .entry)) (token .entry) count) ⌝ }
+    ensures is { λ r. ⌜ Read-as {C = Before × For} (λ c. open-term (c .0) (c .1)) (λ c e. tail (c .1) (with (c .0) e)) (now (text .entry)) (token-of (token .entry)) (number-in (now (text .entry)) (now (names .entry))) count (now (out .entry)) (now (out .exit)) r ⌝ }
+{
+    term(text, names, token, out, count)
 }
 
 // A name, a number, a text constant, or an expression in parentheses.

@@ -12,6 +12,7 @@ use crate::expression::expression;
 use crate::expression::variable;
 use crate::names::Declared;
 use crate::step::Ahead;
+use crate::step::above;
 use crate::step::expect;
 use crate::step::is;
 use crate::step::put;
@@ -101,7 +102,7 @@ fn repeat<'a>(text: &'a [u8], names: &[Entry<Declared>], token: Token<'a>, out: 
     let begin = expect(text, test.token, Fixed::Do)?;
     let body = series(text, names, begin, out, test.count)?;
     let next = expect(text, body.token, Fixed::Od)?;
-    put(out, body.count, Node { kind: WHILE, a: test.count - 1, b: body.count - 1, c: 0 });
+    put(out, body.count, above(WHILE, test.count, body.count));
     Ok(Ahead { token: next, count: body.count + 1 })
 }
 
@@ -145,7 +146,7 @@ pub(crate) fn series<'a>(text: &'a [u8], names: &[Entry<Declared>], token: Token
         _ => {
             let first = statement(text, names, token, out, count)?;
             let others = rest(text, names, first.token, out, first.count)?;
-            put(out, others.count, Node { kind: SERIES, a: first.count - 1, b: others.count - 1, c: 0 });
+            put(out, others.count, above(SERIES, first.count, others.count));
             Ok(Ahead { token: others.token, count: others.count + 1 })
         }
     }

@@ -1,7 +1,7 @@
 // Steps from word to word, and from node to node.
 ghost use mathlib.Core.Path.{_≡_};
 ghost use mathlib.Core.List.{[], _∷_};
-ghost use Prim.Native.Nat.{_+_, _<_, _≤_};
+ghost use Prim.Native.Nat.{_+_, _-_, _<_, _≤_};
 ghost use lib.ListN.{length};
 ghost use Rattle.std.specs.Vec.{made};
 ghost use Rattle.words.specs.Words.{Stands, moves, meant};
@@ -9,7 +9,9 @@ ghost use Rattle.grammar.specs.Machine.{same as same-word};
 ghost use Rattle.grammar.specs.Scan.{wrong};
 ghost use Rattle.reader.specs.Text.{found, token as token-of, outcome};
 ghost use Rattle.reader.specs.Layout.{write};
+ghost use Rattle.nodes.specs.Nodes.{node};
 ghost use Rattle.reader.specs.Parts.{is-word, unexpected as unexpected-at, behind, expected};
+use nodes::node::Node;
 use words::next_word;
 use words::word::Fault;
 use words::word::Fixed;
@@ -75,4 +77,12 @@ pub(crate) fn put<T: Copy>(out: &mut [T], count: u16, item: T)
     if (count as usize) < out.len() {
         out[count as usize] = item;
     }
+}
+
+// A node of this kind above two others, which end the first `left` and the first `right` nodes.
+pub(crate) fn above(kind: u8, left: u16, right: u16) -> Node
+    requires { ⌜ (1 ≤ left) × (1 ≤ right) ⌝ }
+    ensures { λ r. ⌜ r ≡ node kind (left - 1) (right - 1) 0 ⌝ }
+{
+    Node { kind, a: left - 1, b: right - 1, c: 0 }
 }

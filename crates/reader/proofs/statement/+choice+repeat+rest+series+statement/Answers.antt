@@ -234,7 +234,7 @@ repeat-returns r c =
           tree = loop (test .tree) (body .tree);
           count = omega (arith, test .count, body .count);
           nodes = laid-two f (c .args .out .now) (c .put .last .out) (c .args .count) (test .tree) (body .tree) 9 (c .in-Continue-test .test .count) (c .in-Continue-body .body .count) (test .count) (body .count)
-              (c .put .ensures ∙ ap (λ (ys : List Node). write ys (c .in-Continue-body .body .count) (node 9 (c .in-Continue-test .test .count - 1) (c .in-Continue-body .body .count - 1) 0 ∷ []))
+              ((c .put .ensures ∙ ap (λ (b : Node). write (c .series .last .out) (c .in-Continue-body .body .count) (b ∷ [])) (c .above .ensures)) ∙ ap (λ (ys : List Node). write ys (c .in-Continue-body .body .count) (node 9 (c .in-Continue-test .test .count - 1) (c .in-Continue-body .body .count - 1) 0 ∷ []))
                 (body .nodes ∙ ap (λ (ys : List Node). write ys (c .in-Continue-test .test .count) (lay f (c .in-Continue-test .test .count) (body .tree))) (test .nodes)));
           goes-on = λ o. while-reads t (token (c .args .token)) (c .pre .2) o
           ∙ (ap (at t (M.term M.start (M.guard o))) (sym (c .in-Continue-start .ensures tt .is))
@@ -305,7 +305,7 @@ series-returns-in-Continue-others r c =
           tree = more (first .tree) (others .tree);
           count = omega (arith, first .count, others .count);
           nodes = laid-two f (c .args .out .now) (c .put-in-rest .last .out) (c .args .count) (first .tree) (others .tree) 10 (c .in-Continue-first .first .count) (c .in-Continue-others .others .count) (first .count) (others .count)
-              (c .put-in-rest .ensures ∙ ap (λ (ys : List Node). write ys (c .in-Continue-others .others .count) (node 10 (c .in-Continue-first .first .count - 1) (c .in-Continue-others .others .count - 1) 0 ∷ []))
+              ((c .put-in-rest .ensures ∙ ap (λ (b : Node). write (c .rest .last .out) (c .in-Continue-others .others .count) (b ∷ [])) (c .above .ensures)) ∙ ap (λ (ys : List Node). write ys (c .in-Continue-others .others .count) (node 10 (c .in-Continue-first .first .count - 1) (c .in-Continue-others .others .count - 1) 0 ∷ []))
                 (others .nodes ∙ ap (λ (ys : List Node). write ys (c .in-Continue-first .first .count) (lay f (c .in-Continue-first .first .count) (others .tree))) (first .nodes)));
           goes-on = λ o. first .goes-on o ∙ others .goes-on o;
         };

@@ -4,6 +4,7 @@ use Prim.Native.Nat.{ℕ, _+_, _-_, _<_}
 use native.Mathlib.Omega.{arith}
 use borrow.Author.Needs.{needs}
 use Rattle.words.specs.Words.{meant}
+use Rattle.nodes.specs.declared.node.Node.{Node}
 use Rattle.nodes.specs.Nodes.{node}
 use Rattle.grammar.specs.Grammar.{Tree}
 use Rattle.grammar.specs.Machine.{Before, For, term, tail, leaving, start, group, with}
@@ -11,7 +12,7 @@ use Rattle.reader.specs.Text.{token, at}
 use Rattle.reader.specs.Layout.{number-in, size, lay, write}
 use Rattle.reader.proofs.Steps.{pass, close-word}
 use Rattle.reader.proofs.Laid.{write-two, length-lay, leaf-reads, joint-reads, behind-leaf, behind-joint, group-reads, refused-in, ends-by}
-use Rattle.reader.proofs.expression.+expression+more+term.Needs as need
+use Rattle.reader.proofs.expression.+expression+more+operand+term.Needs as need
 
 pub expression-returns-in-Break-first : need.expression-returns-in-Break-first
 expression-returns-in-Break-first r c =
@@ -66,7 +67,7 @@ more-returns-in-Continue-right r c =
           let a : c .args .left .count - 1 ≡ n + size e - 1 = omega arith in
           let b : c .in-Continue-right .right .count - 1 ≡ n + size e + size (right .tree) - 1 = omega (arith, right .count) in
           let nodes : c .put .last .out ≡ write xs n (lay f n whole) =
-              c .put .ensures
+              c .put .ensures ∙ ap (λ (b : Node). write (c .operand .last .out) (c .in-Continue-right .right .count) (b ∷ [])) (c .above .ensures)
               ∙ (ap (λ ys. write ys (c .in-Continue-right .right .count) (last ∷ [])) (right .nodes ∙ ap (λ ys. write ys (c .args .left .count) (lay f (c .args .left .count) (right .tree))) k)
               ∙ (write-two f xs n e (right .tree) last (c .args .left .count) (c .in-Continue-right .right .count) i (right .count)
               ∙ (ap (λ m. write xs n (lay f n e ++ (lay f (n + size e) (right .tree) ++ (node (c .in-Some .kind) m (c .in-Continue-right .right .count - 1) 0 ∷ [])))) a

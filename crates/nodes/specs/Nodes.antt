@@ -2,8 +2,10 @@
 use Prim.Native.Nat.{ℕ, _+_, _*_}
 use mathlib.Core.List.{List, [], _∷_, map}
 use mathlib.Core.Bool.{Bool, true, cond, _&&_}
-use lib.ListN.{getD, take}
+use lib.ListN.{length, getD, take}
 use lib.Dec.{eqb, ltb, leb}
+use Rattle.std.specs.declared.option.Option.{Option}
+use Rattle.std.specs.declared.option.Option.the-variants.{Some, None}
 use Rattle.nodes.specs.declared.node.Node.{Node}
 use Rattle.nodes.specs.declared.view.View.{View}
 use Rattle.nodes.specs.declared.view.View.the-variants as V
@@ -116,3 +118,11 @@ type-of ns i = type-by ns (view-at ns i)
 -- the declared types, one for each variable
 abbrev pub kinds : Sheet → List ℕ
 kinds sh = map (λ x. x .c) (take (sh .variables) (sh .nodes))
+
+-- node i, where there is one
+abbrev pub node-told : Sheet → ℕ → Option Node
+node-told sh i = cond (ltb i (length (sh .nodes))) (Some (node-at (sh .nodes) i)) None
+
+-- the declared type of variable i, where there is one
+abbrev pub kind-told : Sheet → ℕ → Option ℕ
+kind-told sh i = cond (ltb i (sh .variables)) (Some (node-at (sh .nodes) i .c)) None

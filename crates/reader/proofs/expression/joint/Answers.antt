@@ -8,5 +8,5 @@ returns-then-is c = sym (cond-true _ _ _ (sym (c .if-is .ensures tt)))
 pub returns-then-is-2 : need.returns-then-is-2
 returns-then-is-2 c = sym (cond-false _ _ _ (sym (c .if-is .ensures tt)) ∙ cond-true _ _ _ (sym (c .if-is-2 .ensures tt)))
 
-pub returns-else-is : need.returns-else-is
-returns-else-is c = sym (cond-false _ _ _ (sym (c .if-is .ensures tt)) ∙ cond-false _ _ _ (sym (c .if-is-2 .ensures tt)))
+pub returns-else-is-2 : need.returns-else-is-2
+returns-else-is-2 c = sym (cond-false _ _ _ (sym (c .if-is .ensures tt)) ∙ cond-false _ _ _ (sym (c .if-is-2 .ensures tt)))

@@ -1,0 +1,5 @@
+pub mod Cards
+pub mod Writes
+pub mod Opening
+pub mod Judging
+pub mod Lawful

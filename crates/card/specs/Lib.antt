@@ -1,0 +1,4 @@
+pub mod Refusals
+pub mod Card
+pub mod Calls
+pub mod Laws

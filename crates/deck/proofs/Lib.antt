@@ -1,0 +1,12 @@
+pub mod Scan
+pub mod Names
+pub mod Marks
+pub mod Clean
+pub mod Lists
+pub mod Accepted
+pub mod Arrows
+pub mod Declarations
+pub mod Lookup
+pub mod Soundness
+pub mod OfDeck
+pub mod Exactly

@@ -1,0 +1,5 @@
+pub mod Stack
+pub mod Evaluation
+pub mod Opening
+pub mod Of
+pub mod Performed

@@ -2,6 +2,7 @@
 use crate::decks::loaded;
 use crate::decks::put_fault;
 use crate::failure::Failure;
+use crate::failure::FailureFromAlloc;
 use crate::parse::ONES;
 use crate::parse::Words;
 use crate::parse::blank_from;
@@ -13,7 +14,6 @@ use crate::parse::put_bytes;
 use crate::parse::put_nodes;
 use deck::deck::Deck;
 use std::alloc::Global;
-use crate::failure::FailureFromAlloc;
 
 // What buffers are filled with before Pack.
 const BEFORE: u8 = 85;
@@ -25,12 +25,20 @@ fn packed(heap: Global, deck: &Deck, length: usize, out: &mut String) -> Result<
         Ok(n) => {
             put(out, format!(heap, "ok {n} ")?)?;
             put_bytes(heap, out, &card[0..n.min(card.len())])?;
-            out.push_str(if bytes_from(card, n, BEFORE) { " kept" } else { " lost" })?;
+            out.push_str(if bytes_from(card, n, BEFORE) {
+                " kept"
+            } else {
+                " lost"
+            })?;
             Ok(())
         }
         Err(refusal) => {
             let number = refusal.number();
-            let state = if bytes_from(card, 0, BEFORE) { "kept" } else { "lost" };
+            let state = if bytes_from(card, 0, BEFORE) {
+                "kept"
+            } else {
+                "lost"
+            };
             put(out, format!(heap, "no {number} {state}")?)
         }
     }

@@ -1,5 +1,6 @@
 // load N V LETTERS BOXES
 use crate::failure::Failure;
+use crate::failure::FailureFromAlloc;
 use crate::parse::Words;
 use crate::parse::bytes;
 use crate::parse::nodes;
@@ -8,7 +9,6 @@ use crate::parse::put;
 use deck::deck::Deck;
 use deck::fault::Fault;
 use std::alloc::Global;
-use crate::failure::FailureFromAlloc;
 
 pub fn put_fault(heap: Global, out: &mut String, fault: Fault) -> Result<(), Failure> {
     let number = fault.refusal.number();
@@ -17,7 +17,11 @@ pub fn put_fault(heap: Global, out: &mut String, fault: Fault) -> Result<(), Fai
 }
 
 // Loads what the next words say.
-pub fn loaded(heap: Global, words: &mut Words<'_>, deck: &mut Deck) -> Result<Result<(), Fault>, Failure> {
+pub fn loaded(
+    heap: Global,
+    words: &mut Words<'_>,
+    deck: &mut Deck,
+) -> Result<Result<(), Fault>, Failure> {
     let n = number(words.next()?)?;
     let v = number(words.next()?)?;
     let letters = bytes(heap, words.next()?)?;

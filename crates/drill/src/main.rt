@@ -7,12 +7,12 @@ mod plays;
 mod texts;
 
 use crate::failure::Failure;
+use crate::failure::FailureFromAlloc;
+use crate::failure::FailureFromIo;
 use crate::parse::Words;
 use std::alloc::Global;
 use std::io::Read;
 use std::io::Write;
-use crate::failure::FailureFromAlloc;
-use crate::failure::FailureFromIo;
 
 // The answer to a request.
 fn answer(heap: Global, line: &str, out: &mut String) -> Result<(), Failure> {

@@ -1,9 +1,9 @@
 // The parts of a request.
 use crate::failure::Failure;
-use nodes::node::Node;
-use std::alloc::Global;
 use crate::failure::FailureFromAlloc;
 use crate::failure::FailureFromRefused;
+use nodes::node::Node;
+use std::alloc::Global;
 
 // The words of a line, one space apart.
 #[derive(Drop)]
@@ -94,7 +94,12 @@ fn node(word: &str) -> Result<Node, Failure> {
     if kind > 255 {
         return Err(Failure::Request);
     }
-    Ok(Node { kind: kind as u8, a, b, c })
+    Ok(Node {
+        kind: kind as u8,
+        a,
+        b,
+        c,
+    })
 }
 
 // Nodes with commas between them; `-` is none.
@@ -144,7 +149,12 @@ pub fn put(out: &mut String, text: String) -> Result<(), Failure> {
 }
 
 // A node filled with ones, as buffers are before a call.
-pub const ONES: Node = Node { kind: 255, a: 65535, b: 65535, c: 65535 };
+pub const ONES: Node = Node {
+    kind: 255,
+    a: 65535,
+    b: 65535,
+    c: 65535,
+};
 
 pub fn is_blank(node: Node) -> bool {
     node.kind == 0 && node.a == 0 && node.b == 0 && node.c == 0

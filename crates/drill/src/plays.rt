@@ -1,6 +1,8 @@
 // run rows|packed SIZE CARD CALL..
 use crate::decks::put_fault;
 use crate::failure::Failure;
+use crate::failure::FailureFromAlloc;
+use crate::failure::FailureFromRefused;
 use crate::parse::Words;
 use crate::parse::bytes;
 use crate::parse::number;
@@ -22,8 +24,6 @@ use semantics::status::Status;
 use shelf::LONGEST;
 use shelf::Shelf;
 use std::alloc::Global;
-use crate::failure::FailureFromAlloc;
-use crate::failure::FailureFromRefused;
 
 // The line of all looks before the first.
 const DOT: u8 = 46;
@@ -44,7 +44,12 @@ fn put_status(heap: Global, out: &mut String, status: Status) -> Result<(), Fail
     }
 }
 
-fn put_look(heap: Global, out: &mut String, seen: Result<Outcome, LookRefusal>, line: &[u8; 80]) -> Result<(), Failure> {
+fn put_look(
+    heap: Global,
+    out: &mut String,
+    seen: Result<Outcome, LookRefusal>,
+    line: &[u8; 80],
+) -> Result<(), Failure> {
     match seen {
         Ok(Outcome::Number(value)) => put(out, format!(heap, "look:number:{value}")?),
         Ok(Outcome::Text(length)) => {
@@ -67,7 +72,10 @@ fn call(word: &str) -> Result<Call, Failure> {
             if what == "play" {
                 Ok(Call::Play(n.min(65535) as u16))
             } else {
-                Ok(Call::Look { of: n, line: [DOT; 80] })
+                Ok(Call::Look {
+                    of: n,
+                    line: [DOT; 80],
+                })
             }
         }
     }
@@ -115,7 +123,13 @@ fn put_line(heap: Global, out: &mut String, line: [u8; 80]) -> Result<(), Failur
     put_bytes(heap, out, &line)
 }
 
-fn played<S: Shelf + Drop>(heap: Global, deck: Deck, shelf: S, words: &mut Words<'_>, out: &mut String) -> Result<(), Failure> {
+fn played<S: Shelf + Drop>(
+    heap: Global,
+    deck: Deck,
+    shelf: S,
+    words: &mut Words<'_>,
+    out: &mut String,
+) -> Result<(), Failure> {
     let script = calls(heap, words)?;
     let mut answers = vec![in heap; Answer::Rewound(Status::Ready); script.len()]?;
     let _ = perform(deck, shelf, script.as_slice(), answers.as_mut_slice());
@@ -123,7 +137,14 @@ fn played<S: Shelf + Drop>(heap: Global, deck: Deck, shelf: S, words: &mut Words
 }
 
 // Plays a loaded deck on the shelf that was asked for.
-fn on_shelf(heap: Global, deck: Deck, kind: &str, size: usize, words: &mut Words<'_>, out: &mut String) -> Result<(), Failure> {
+fn on_shelf(
+    heap: Global,
+    deck: Deck,
+    kind: &str,
+    size: usize,
+    words: &mut Words<'_>,
+    out: &mut String,
+) -> Result<(), Failure> {
     let memory = vec![in heap; 0; size]?;
     if kind == "rows" {
         played(heap, deck, Rows::new(memory), words, out)
@@ -142,7 +163,12 @@ pub fn run(heap: Global, words: &mut Words<'_>, out: &mut String) -> Result<(), 
         Ok(sizes) => {
             let text = letters.as_slice();
             let mut deck = Deck::new();
-            match deck.load(&text[0..sizes.t.min(text.len())], all.as_slice(), sizes.n, sizes.v) {
+            match deck.load(
+                &text[0..sizes.t.min(text.len())],
+                all.as_slice(),
+                sizes.n,
+                sizes.v,
+            ) {
                 Ok(()) => on_shelf(heap, deck, kind, size, words, out),
                 Err(fault) => put_fault(heap, out, fault),
             }

@@ -1,5 +1,6 @@
 // read CAP TEXT
 use crate::failure::Failure;
+use crate::failure::FailureFromAlloc;
 use crate::parse::ONES;
 use crate::parse::Words;
 use crate::parse::blank_from;
@@ -8,7 +9,6 @@ use crate::parse::number;
 use crate::parse::put;
 use crate::parse::put_nodes;
 use std::alloc::Global;
-use crate::failure::FailureFromAlloc;
 
 pub fn read(heap: Global, words: &mut Words<'_>, out: &mut String) -> Result<(), Failure> {
     let places = number(words.next()?)?;
@@ -21,13 +21,21 @@ pub fn read(heap: Global, words: &mut Words<'_>, out: &mut String) -> Result<(),
             let v = sizes.variables;
             put(out, format!(heap, "ok {n} {v} ")?)?;
             put_nodes(heap, out, &nodes[0..n.min(nodes.len())])?;
-            out.push_str(if blank_from(nodes, n) { " clean" } else { " dirty" })?;
+            out.push_str(if blank_from(nodes, n) {
+                " clean"
+            } else {
+                " dirty"
+            })?;
             Ok(())
         }
         Err(fault) => {
             let number = fault.refusal.number();
             let place = fault.place;
-            let state = if blank_from(nodes, 0) { "clean" } else { "dirty" };
+            let state = if blank_from(nodes, 0) {
+                "clean"
+            } else {
+                "dirty"
+            };
             put(out, format!(heap, "no {number} {place} {state}")?)
         }
     }

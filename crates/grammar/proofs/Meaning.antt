@@ -130,7 +130,7 @@ onward : {us : List Token} {s x : State} (k : Token) → At us s → feed s k �
 onward {us} {s} {x} k h e l = record {
   leads = l;
   reaches = λ vs z. ap (λ (l : List Token). run empty l z) (append-assoc us (k ∷ []) vs) ∙ h .reaches (k ∷ vs) z
-    ∙ ap (λ (m : Move). elim m [ go next ↦ run next vs z | no ↦ refused (wholeOf s) (place k) ]) e;
+      ∙ ap (λ (m : Move). elim m [ go next ↦ run next vs z | no ↦ refused (wholeOf s) (place k) ]) e;
 }
 
 told : {ts : List Token} {z : Last} {m : Refusal} {q : ℕ} {n : Refusal} {p : ℕ} → Means ts z m q → fault m q ≡ fault n p → Means ts z n p
@@ -168,7 +168,7 @@ faults-from (k ∷ ts) {us} {s} z n p h e =
     at (feed s k) refl (leads-on k (h .leads)) e (λ x i d. of-words (faults-from ts z n p i d) (append-assoc us (k ∷ []) ts))
   where
     at : (m : Move) → feed s k ≡ m → Onto m (λ x. Leads x (us ++ (k ∷ []))) → _≡_ {A = Answer} (elim m [ go next ↦ run next ts z | no ↦ refused (wholeOf s) (place k) ]) (fault n p) →
-      ((x : State) → At (us ++ (k ∷ [])) x → run x ts z ≡ fault n p → Means (us ++ (k ∷ ts)) z n p) → Means (us ++ (k ∷ ts)) z n p
+        ((x : State) → At (us ++ (k ∷ [])) x → run x ts z ≡ fault n p → Means (us ++ (k ∷ ts)) z n p) → Means (us ++ (k ∷ ts)) z n p
     at (go x) i l e f = f x (onward k h i l) e
     at no i l e f = at-word us (wholeOf s) k ts z n p (begins h) (here h) (refuses k h i) (ends (h .leads)) e
 
@@ -181,7 +181,7 @@ reached [] {us} {s} vs t h e = (s, subst (λ (l : List Token). At l s) (sym (app
 reached (k ∷ ts) {us} {s} vs t h e = by (feed s k) refl (leads-on k (h .leads)) e (λ x i d. let r = reached ts vs t i d in (r .0, subst (λ (l : List Token). At l (r .0)) (append-assoc us (k ∷ []) ts) (r .1)))
   where
     by : (m : Move) → feed s k ≡ m → Onto m (λ x. Leads x (us ++ (k ∷ []))) → _≡_ {A = Answer} (elim m [ go next ↦ run next (ts ++ vs) (stop 0) | no ↦ refused (wholeOf s) (place k) ]) (read t) →
-      ((x : State) → At (us ++ (k ∷ [])) x → run x (ts ++ vs) (stop 0) ≡ read t → (y : State) × At (us ++ (k ∷ ts)) y) → (y : State) × At (us ++ (k ∷ ts)) y
+        ((x : State) → At (us ++ (k ∷ [])) x → run x (ts ++ vs) (stop 0) ≡ read t → (y : State) × At (us ++ (k ∷ ts)) y) → (y : State) × At (us ++ (k ∷ ts)) y
     by (go x) i l e f = f x (onward k h i l) e
     by no i l e f = absurd (refused-not (wholeOf s) (place k) t e)
 

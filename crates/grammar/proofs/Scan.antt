@@ -19,12 +19,13 @@ module _ (find : ℕ → Found) (n : ℕ) (ahead : (p : ℕ) (x : Token) (q : �
   enough (suc k) (suc j) s p h g = at (find p) refl (λ y q lt le. enough k j y q (omega arith) (omega arith))
     where
       fed : (m : Move) (x : Token) (q : ℕ) → ((y : State) → By k y q ≡ By j y q) →
-        _≡_ {A = Answer} (elim m [ go y ↦ By k y q | no ↦ refused (wholeOf s) (place x) ]) (elim m [ go y ↦ By j y q | no ↦ refused (wholeOf s) (place x) ])
+          _≡_ {A = Answer} (elim m [ go y ↦ By k y q | no ↦ refused (wholeOf s) (place x) ]) (elim m [ go y ↦ By j y q | no ↦ refused (wholeOf s) (place x) ])
       fed (go y) x q i = i y
       fed no x q i = refl
+
       at : (f : Found) → find p ≡ f → ((y : State) (q : ℕ) → p < q → q ≤ n → By k y q ≡ By j y q) →
-        run s (elim f [ word x q ↦ x ∷ wordsBy find k q | nothing-left z ↦ [] | wrong m z ↦ [] ]) (elim f [ word x q ↦ lastBy find k q | nothing-left z ↦ stop z | wrong m z ↦ bad m z ])
-        ≡ run s (elim f [ word x q ↦ x ∷ wordsBy find j q | nothing-left z ↦ [] | wrong m z ↦ [] ]) (elim f [ word x q ↦ lastBy find j q | nothing-left z ↦ stop z | wrong m z ↦ bad m z ])
+          run s (elim f [ word x q ↦ x ∷ wordsBy find k q | nothing-left z ↦ [] | wrong m z ↦ [] ]) (elim f [ word x q ↦ lastBy find k q | nothing-left z ↦ stop z | wrong m z ↦ bad m z ])
+          ≡ run s (elim f [ word x q ↦ x ∷ wordsBy find j q | nothing-left z ↦ [] | wrong m z ↦ [] ]) (elim f [ word x q ↦ lastBy find j q | nothing-left z ↦ stop z | wrong m z ↦ bad m z ])
       at (word x q) e i = let h = ahead p x q e in fed (feed s x) x q (λ y. i y q (h .0) (h .1))
       at (nothing-left z) e i = refl
       at (wrong m z) e i = refl

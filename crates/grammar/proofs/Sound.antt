@@ -23,7 +23,7 @@ pub data Leads : State → List Token → Type 0 where
   at-after : (r : ℕ) {us vs : List Token} {o : Around} {s : Tree} → Leads (series o) us → Derives Statement vs s → Leads (series (after s o)) (us ++ (vs ++ (fixed Semicolon r ∷ [])))
   at-taken : (p q : ℕ) {us vs : List Token} {o : Around} {e : Tree} → Leads (series o) us → Derives Expression vs e → Leads (series (taken e o)) (us ++ (fixed If p ∷ (vs ++ (fixed Then q ∷ []))))
   at-left : (p q r : ℕ) {us vs ws : List Token} {o : Around} {e a : Tree} → Leads (series o) us → Derives Expression vs e → Derives Series ws a →
-    Leads (series (left e a o)) (us ++ (fixed If p ∷ (vs ++ (fixed Then q ∷ (ws ++ (fixed Else r ∷ []))))))
+      Leads (series (left e a o)) (us ++ (fixed If p ∷ (vs ++ (fixed Then q ∷ (ws ++ (fixed Else r ∷ []))))))
   at-body : (p q : ℕ) {us vs : List Token} {o : Around} {e : Tree} → Leads (series o) us → Derives Expression vs e → Leads (series (body e o)) (us ++ (fixed While p ∷ (vs ++ (fixed Do q ∷ []))))
   at-closing : {us vs : List Token} {o : Around} {a : Tree} → Leads (series o) us → Derives Series vs a → Leads (closing o a) (us ++ vs)
   at-becoming : (n : Part) {us : List Token} {o : Around} → Leads (series o) us → Leads (becoming n o) (us ++ (name n ∷ []))
@@ -236,7 +236,7 @@ run-sound [] {s} {us} z t l e = retype (read-only (wholeOf s) z t us e (ends l))
 run-sound (k ∷ ts) {s} {us} z t l e = at (feed s k) (leads-on k l) e (λ x h d. retype (run-sound ts z t h d) (append-assoc us (k ∷ []) ts))
   where
     at : (m : Move) → Onto m (λ x. Leads x (us ++ (k ∷ []))) → _≡_ {A = Answer} (elim m [ go next ↦ run next ts z | no ↦ refused (wholeOf s) (place k) ]) (read t) →
-      ((x : State) → Leads x (us ++ (k ∷ [])) → run x ts z ≡ read t → Derives Sheet (us ++ (k ∷ ts)) t) → Derives Sheet (us ++ (k ∷ ts)) t
+        ((x : State) → Leads x (us ++ (k ∷ [])) → run x ts z ≡ read t → Derives Sheet (us ++ (k ∷ ts)) t) → Derives Sheet (us ++ (k ∷ ts)) t
     at (go x) h e f = f x h e
     at no h e f = absurd (refused-not (wholeOf s) (place k) t e)
 

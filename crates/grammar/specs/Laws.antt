@@ -40,4 +40,3 @@ Faults = (ts : List Token) (z : Last) (n : Refusal) (p : ℕ) → reading ts z �
 -- and nothing else is answered where that holds
 abbrev pub Exact : Type 0
 Exact = (ts : List Token) (z : Last) (n : Refusal) (p : ℕ) → Means ts z n p → reading ts z ≡ fault n p
-

@@ -1,5 +1,7 @@
 // check, pack and show.
 use crate::failure::Failure;
+use crate::failure::FailureFromAlloc;
+use crate::failure::FailureFromIo;
 use crate::fault::fail_card;
 use crate::loaded::from_file;
 use crate::tree::Sheet;
@@ -7,8 +9,6 @@ use crate::tree::drawn;
 use card::pack::pack;
 use std::fs;
 use std::io::Write;
-use crate::failure::FailureFromAlloc;
-use crate::failure::FailureFromIo;
 
 // The most bytes that a card can have.
 const LONGEST_CARD: usize = 7686;
@@ -18,7 +18,10 @@ pub fn check(rt: &LibcRuntime, file: &str, card: bool) -> Result<(), Failure> {
     let nodes = deck.count();
     let variables = deck.variables();
     let letters = deck.letters().len();
-    println!(rt, "{file}: accepted: {nodes} nodes, {variables} variables, {letters} letters")?;
+    println!(
+        rt,
+        "{file}: accepted: {nodes} nodes, {variables} variables, {letters} letters"
+    )?;
     Ok(())
 }
 
@@ -46,7 +49,11 @@ pub fn pack_file(rt: &LibcRuntime, sheet: &str, to: &str) -> Result<(), Failure>
 
 pub fn show(rt: &LibcRuntime, file: &str) -> Result<(), Failure> {
     let deck = from_file(rt, file, true)?;
-    let sheet = Sheet { letters: deck.letters(), nodes: deck.nodes(), variables: deck.variables() };
+    let sheet = Sheet {
+        letters: deck.letters(),
+        nodes: deck.nodes(),
+        variables: deck.variables(),
+    };
     let picture = drawn(rt.alloc(), sheet)?;
     let mut out = rt.stdout();
     out.write_all(picture.as_bytes())?;

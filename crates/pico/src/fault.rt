@@ -1,5 +1,6 @@
 // A fault of a text, shown with its line and a caret.
 use crate::failure::Failure;
+use crate::failure::FailureFromAlloc;
 use crate::meaning::of_card;
 use crate::meaning::of_nodes;
 use crate::meaning::of_text;
@@ -14,13 +15,16 @@ use std::alloc::AllocError;
 use std::alloc::Global;
 use std::io::Write;
 use words::word::Fault;
-use crate::failure::FailureFromAlloc;
 
 // The bytes of a line as a terminal can show them: anything but printable ASCII becomes a dot.
 pub fn shown(heap: Global, bytes: &[u8]) -> Result<String, AllocError> {
     let mut line = String::new(heap);
     for b in bytes {
-        if *b >= 32 && *b < 127 { line.push(*b as char)? } else { line.push('.')? }
+        if *b >= 32 && *b < 127 {
+            line.push(*b as char)?
+        } else {
+            line.push('.')?
+        }
     }
     Ok(line)
 }
@@ -42,7 +46,10 @@ pub fn text(heap: Global, file: &str, source: &[u8], fault: Fault) -> Result<Str
     let number = fault.refusal.number();
     let meaning = of_text(fault.refusal);
     let under = excerpt(heap, source, fault.place)?;
-    format!(heap, "{file}:{line}:{column}: refused with {number}: {meaning}\n{under}")
+    format!(
+        heap,
+        "{file}:{line}:{column}: refused with {number}: {meaning}\n{under}"
+    )
 }
 
 pub fn fail(rt: &LibcRuntime, file: &str, source: &[u8], fault: Fault) -> Failure {
@@ -77,7 +84,13 @@ pub fn excerpt(heap: Global, source: &[u8], place: usize) -> Result<String, Allo
     format!(heap, "  {line}\n  {blanks}^\n")
 }
 
-fn nodes_text(heap: Global, file: &str, letters: &[u8], nodes: &[Node], found: deck::fault::Fault) -> Result<String, AllocError> {
+fn nodes_text(
+    heap: Global,
+    file: &str,
+    letters: &[u8],
+    nodes: &[Node],
+    found: deck::fault::Fault,
+) -> Result<String, AllocError> {
     let number = found.refusal.number();
     let meaning = of_nodes(found.refusal);
     let node = found.node;
@@ -87,9 +100,15 @@ fn nodes_text(heap: Global, file: &str, letters: &[u8], nodes: &[Node], found: d
             let line = spot.line;
             let column = spot.column;
             let under = excerpt(heap, letters, place as usize)?;
-            format!(heap, "{file}:{line}:{column}: refused with {number} at node {node}: {meaning}\n{under}")
+            format!(
+                heap,
+                "{file}:{line}:{column}: refused with {number} at node {node}: {meaning}\n{under}"
+            )
         }
-        None => format!(heap, "{file}: refused with {number} at node {node}: {meaning}\n"),
+        None => format!(
+            heap,
+            "{file}: refused with {number} at node {node}: {meaning}\n"
+        ),
     }
 }
 
@@ -105,12 +124,21 @@ fn said(rt: &LibcRuntime, message: Result<String, AllocError>) -> Failure {
     }
 }
 
-pub fn fail_at_node(rt: &LibcRuntime, file: &str, letters: &[u8], nodes: &[Node], found: deck::fault::Fault) -> Failure {
+pub fn fail_at_node(
+    rt: &LibcRuntime,
+    file: &str,
+    letters: &[u8],
+    nodes: &[Node],
+    found: deck::fault::Fault,
+) -> Failure {
     said(rt, nodes_text(rt.alloc(), file, letters, nodes, found))
 }
 
 pub fn fail_card(rt: &LibcRuntime, file: &str, refusal: CardRefusal) -> Failure {
     let number = refusal.number();
     let meaning = of_card(refusal);
-    said(rt, format!(rt.alloc(), "{file}: refused with {number}: {meaning}\n"))
+    said(
+        rt,
+        format!(rt.alloc(), "{file}: refused with {number}: {meaning}\n"),
+    )
 }

@@ -1,9 +1,9 @@
 // What is read from a file, or from the standard input.
 use crate::failure::Failure;
+use crate::failure::FailureFromIo;
 use std::fs;
 use std::io;
 use std::io::Read;
-use crate::failure::FailureFromIo;
 
 pub fn bytes(rt: &LibcRuntime, file: &str) -> Result<Vec<u8>, Failure> {
     if file == "-" {

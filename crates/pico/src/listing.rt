@@ -1,5 +1,7 @@
 // The words of a sheet, listed.
 use crate::failure::Failure;
+use crate::failure::FailureFromAlloc;
+use crate::failure::FailureFromIo;
 use crate::fault::fail;
 use crate::fault::shown;
 use crate::input;
@@ -11,8 +13,6 @@ use words::next_word;
 use words::word::Fixed;
 use words::word::Token;
 use words::word::Word;
-use crate::failure::FailureFromAlloc;
-use crate::failure::FailureFromIo;
 
 fn kind(word: Word<'_>) -> &'static str {
     match word {

@@ -16,7 +16,14 @@ pub fn is_card(file: &str, said: bool) -> bool {
 }
 
 // Loads nodes into a deck, or shows why not.
-fn load(rt: &LibcRuntime, file: &str, letters: &[u8], nodes: &[Node], n: usize, v: usize) -> Result<Deck, Failure> {
+fn load(
+    rt: &LibcRuntime,
+    file: &str,
+    letters: &[u8],
+    nodes: &[Node],
+    n: usize,
+    v: usize,
+) -> Result<Deck, Failure> {
     let mut deck = Deck::new();
     match deck.load(letters, nodes, n, v) {
         Ok(()) => Ok(deck),
@@ -27,7 +34,14 @@ fn load(rt: &LibcRuntime, file: &str, letters: &[u8], nodes: &[Node], n: usize, 
 pub fn from_text(rt: &LibcRuntime, file: &str, text: &[u8]) -> Result<Deck, Failure> {
     let mut all = [BLANK; NODES];
     match read(text, &mut all) {
-        Ok(sizes) => load(rt, file, text, &all, sizes.nodes as usize, sizes.variables as usize),
+        Ok(sizes) => load(
+            rt,
+            file,
+            text,
+            &all,
+            sizes.nodes as usize,
+            sizes.variables as usize,
+        ),
         Err(found) => Err(fault::fail(rt, file, text, found)),
     }
 }
@@ -36,7 +50,14 @@ pub fn from_card(rt: &LibcRuntime, file: &str, bytes: &[u8]) -> Result<Deck, Fai
     let mut all = [BLANK; NODES];
     let mut letters = [0; LETTERS];
     match unpack(bytes, &mut all, &mut letters) {
-        Ok(sizes) => load(rt, file, &letters[0..sizes.t.min(LETTERS)], &all, sizes.n, sizes.v),
+        Ok(sizes) => load(
+            rt,
+            file,
+            &letters[0..sizes.t.min(LETTERS)],
+            &all,
+            sizes.n,
+            sizes.v,
+        ),
         Err(refusal) => Err(fault::fail_card(rt, file, refusal)),
     }
 }

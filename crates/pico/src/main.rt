@@ -13,11 +13,11 @@ mod script;
 mod tree;
 
 use crate::failure::Failure;
-use std::env;
-use std::rt::Env;
 use crate::failure::FailureFromAlloc;
 use crate::failure::FailureFromIo;
 use crate::failure::FailureFromRefused;
+use std::env;
+use std::rt::Env;
 
 const USAGE: &str = "pico reads, checks, packs and plays PICO sheets.
 

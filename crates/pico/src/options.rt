@@ -22,7 +22,11 @@ fn number(word: Option<&String>) -> Result<u64, Failure> {
 }
 
 // One word of the command; answers how many words it took.
-fn take<'a>(asked: &mut Asked<'a>, word: &'a String, next: Option<&'a String>) -> Result<usize, Failure> {
+fn take<'a>(
+    asked: &mut Asked<'a>,
+    word: &'a String,
+    next: Option<&'a String>,
+) -> Result<usize, Failure> {
     match word.as_str() {
         "--beats" => {
             asked.options.beats = number(next)?;
@@ -59,7 +63,11 @@ fn take<'a>(asked: &mut Asked<'a>, word: &'a String, next: Option<&'a String>) -
 }
 
 pub fn parse<'a>(args: &'a [String]) -> Result<Asked<'a>, Failure> {
-    let mut found = Asked { options: PLAIN, calls: None, file: None };
+    let mut found = Asked {
+        options: PLAIN,
+        calls: None,
+        file: None,
+    };
     let mut skip = 0;
     for (i, word) in args.iter().enumerate() {
         if i >= skip {

@@ -8,15 +8,30 @@ pub struct Spot {
     pub start: usize,
 }
 
-pub const FIRST: Spot = Spot { place: 0, line: 1, column: 1, start: 0 };
+pub const FIRST: Spot = Spot {
+    place: 0,
+    line: 1,
+    column: 1,
+    start: 0,
+};
 
 // The spot after one byte more.
 fn after(spot: Spot, byte: u8) -> Spot {
     let place = spot.place.saturating_add(1);
     if byte == b'\n' {
-        Spot { place, line: spot.line.saturating_add(1), column: 1, start: place }
+        Spot {
+            place,
+            line: spot.line.saturating_add(1),
+            column: 1,
+            start: place,
+        }
     } else {
-        Spot { place, line: spot.line, column: spot.column.saturating_add(1), start: spot.start }
+        Spot {
+            place,
+            line: spot.line,
+            column: spot.column.saturating_add(1),
+            start: spot.start,
+        }
     }
 }
 

@@ -1,5 +1,7 @@
 // play: what a person wants to see of a sheet that is played.
 use crate::failure::Failure;
+use crate::failure::FailureFromAlloc;
+use crate::failure::FailureFromIo;
 use crate::fault::excerpt;
 use crate::fault::place_of;
 use crate::fault::shown;
@@ -16,8 +18,6 @@ use semantics::status::Status;
 use shelf::Shelf;
 use std::alloc::AllocError;
 use std::alloc::Global;
-use crate::failure::FailureFromAlloc;
-use crate::failure::FailureFromIo;
 
 // How a sheet is to be played.
 #[derive(Clone, Copy)]
@@ -35,7 +35,14 @@ pub struct Options {
     pub card: bool,
 }
 
-pub const PLAIN: Options = Options { beats: 1000000, grant: 65535, shows_portions: false, trace: false, room: None, card: false };
+pub const PLAIN: Options = Options {
+    beats: 1000000,
+    grant: 65535,
+    shows_portions: false,
+    trace: false,
+    room: None,
+    card: false,
+};
 
 // The bytes that rows of 64 variables take.
 const ROWS: usize = 5120;
@@ -55,7 +62,11 @@ fn gather(heap: Global, deck: &Deck) -> Result<Told, AllocError> {
     }
     let letters = Vec::from_slice(heap, deck.letters())?;
     let nodes = Vec::from_slice(heap, deck.nodes())?;
-    Ok(Told { names, letters, nodes })
+    Ok(Told {
+        names,
+        letters,
+        nodes,
+    })
 }
 
 fn name(heap: Global, deck: &Deck, i: usize) -> Result<String, AllocError> {
@@ -86,7 +97,11 @@ fn value<S: Shelf>(heap: Global, player: &Player<S>, i: usize) -> Result<String,
     }
 }
 
-fn values<S: Shelf>(heap: Global, player: &Player<S>, count: usize) -> Result<Vec<String>, AllocError> {
+fn values<S: Shelf>(
+    heap: Global,
+    player: &Player<S>,
+    count: usize,
+) -> Result<Vec<String>, AllocError> {
     let mut all = Vec::new(heap);
     for i in 0..count {
         all.push(value(heap, player, i)?)?;
@@ -97,7 +112,10 @@ fn values<S: Shelf>(heap: Global, player: &Player<S>, count: usize) -> Result<Ve
 // How the player stands, in words.
 fn show_status(rt: &LibcRuntime, told: &Told, status: Status) -> Result<(), Failure> {
     match status {
-        Status::Ready => println!(rt, "ready: the beats that were granted are made, and the sheet goes on")?,
+        Status::Ready => println!(
+            rt,
+            "ready: the beats that were granted are made, and the sheet goes on"
+        )?,
         Status::Ended => println!(rt, "ended")?,
         Status::Stopped { cause, node } => {
             let number = cause.number();
@@ -113,7 +131,12 @@ fn show_status(rt: &LibcRuntime, told: &Told, status: Status) -> Result<(), Fail
 }
 
 // The variables that a beat changed.
-fn show_changes(rt: &LibcRuntime, told: &Told, before: &[String], after: &[String]) -> Result<(), Failure> {
+fn show_changes(
+    rt: &LibcRuntime,
+    told: &Told,
+    before: &[String],
+    after: &[String],
+) -> Result<(), Failure> {
     let both = before.iter().zip(after.iter());
     for (name, (old, new)) in told.names.as_slice().iter().zip(both) {
         if old.as_str() != new.as_str() {
@@ -124,10 +147,21 @@ fn show_changes(rt: &LibcRuntime, told: &Told, before: &[String], after: &[Strin
 }
 
 // One portion of beats.
-fn portion<S: Shelf>(rt: &LibcRuntime, player: &mut Player<S>, told: &Told, options: Options, made: u64, grant: u16) -> Result<(u64, Status), Failure> {
+fn portion<S: Shelf>(
+    rt: &LibcRuntime,
+    player: &mut Player<S>,
+    told: &Told,
+    options: Options,
+    made: u64,
+    grant: u16,
+) -> Result<(u64, Status), Failure> {
     let heap = rt.alloc();
     let count = told.names.len();
-    let before = if options.trace { values(heap, player, count)? } else { Vec::new(heap) };
+    let before = if options.trace {
+        values(heap, player, count)?
+    } else {
+        Vec::new(heap)
+    };
     let progress = player.play(grant);
     let beats = progress.beats;
     let total = made.saturating_add(beats as u64);
@@ -143,8 +177,17 @@ fn portion<S: Shelf>(rt: &LibcRuntime, player: &mut Player<S>, told: &Told, opti
 }
 
 // Grants portions until the sheet ends or stops, or all beats are made.
-fn portions<S: Shelf>(rt: &LibcRuntime, player: &mut Player<S>, told: &Told, options: Options) -> Result<(u64, Status), Failure> {
-    let size = if options.trace { 1 } else { options.grant.max(1) };
+fn portions<S: Shelf>(
+    rt: &LibcRuntime,
+    player: &mut Player<S>,
+    told: &Told,
+    options: Options,
+) -> Result<(u64, Status), Failure> {
+    let size = if options.trace {
+        1
+    } else {
+        options.grant.max(1)
+    };
     let mut made = 0;
     let mut status = player.play(0).status;
     for turn in 0..options.beats {
@@ -168,7 +211,12 @@ fn portions<S: Shelf>(rt: &LibcRuntime, player: &mut Player<S>, told: &Told, opt
     Ok((made, status))
 }
 
-fn show_all<S: Shelf>(rt: &LibcRuntime, player: &mut Player<S>, told: &Told, options: Options) -> Result<(), Failure> {
+fn show_all<S: Shelf>(
+    rt: &LibcRuntime,
+    player: &mut Player<S>,
+    told: &Told,
+    options: Options,
+) -> Result<(), Failure> {
     let (made, status) = portions(rt, player, told, options)?;
     println!(rt, "{made} beats")?;
     show_status(rt, told, status)?;
@@ -179,7 +227,12 @@ fn show_all<S: Shelf>(rt: &LibcRuntime, player: &mut Player<S>, told: &Told, opt
     Ok(())
 }
 
-fn play_on<S: Shelf + Drop>(rt: &LibcRuntime, deck: Deck, shelf: S, options: Options) -> Result<(), Failure> {
+fn play_on<S: Shelf + Drop>(
+    rt: &LibcRuntime,
+    deck: Deck,
+    shelf: S,
+    options: Options,
+) -> Result<(), Failure> {
     let about = gather(rt.alloc(), &deck)?;
     let mut player = Player::start(deck, shelf);
     let outcome = show_all(rt, &mut player, &about, options);

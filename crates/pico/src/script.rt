@@ -1,5 +1,8 @@
 // A script of calls, played through `perform`.
 use crate::failure::Failure;
+use crate::failure::FailureFromAlloc;
+use crate::failure::FailureFromIo;
+use crate::failure::FailureFromRefused;
 use crate::fault::shown;
 use crate::loaded::from_file;
 use deck::deck::Deck;
@@ -12,9 +15,6 @@ use semantics::call::LookRefusal;
 use semantics::call::Outcome;
 use semantics::status::Status;
 use std::alloc::Global;
-use crate::failure::FailureFromAlloc;
-use crate::failure::FailureFromIo;
-use crate::failure::FailureFromRefused;
 
 // The number of the variable with this name, or one that no variable has.
 fn variable(deck: &Deck, name: &str) -> usize {
@@ -45,7 +45,10 @@ fn call(deck: &Deck, text: &str) -> Result<Call, Failure> {
     };
     match pair {
         Some(("play", n)) => Ok(Call::Play(grant(n.trim())?)),
-        Some(("look", name)) => Ok(Call::Look { of: variable(deck, name.trim()), line: [0; 80] }),
+        Some(("look", name)) => Ok(Call::Look {
+            of: variable(deck, name.trim()),
+            line: [0; 80],
+        }),
         None => {
             if words == "rewind" {
                 return Ok(Call::Rewind);
@@ -75,7 +78,11 @@ fn status_text(heap: Global, status: Status) -> Result<String, Failure> {
     }
 }
 
-fn seen_text(heap: Global, seen: Result<Outcome, LookRefusal>, line: &[u8; 80]) -> Result<String, Failure> {
+fn seen_text(
+    heap: Global,
+    seen: Result<Outcome, LookRefusal>,
+    line: &[u8; 80],
+) -> Result<String, Failure> {
     match seen {
         Ok(Outcome::Number(value)) => Ok(format!(heap, "look: {value}")?),
         Ok(Outcome::Text(length)) => {

@@ -1,5 +1,7 @@
 // A sheet's declarations, nodes and tree, for a person.
 use crate::failure::Failure;
+use crate::failure::FailureFromAlloc;
+use crate::failure::FailureFromIo;
 use crate::fault::fail;
 use crate::fault::shown;
 use crate::input;
@@ -13,8 +15,6 @@ use reader::read::read;
 use std::alloc::AllocError;
 use std::alloc::Global;
 use std::io::Write;
-use crate::failure::FailureFromAlloc;
-use crate::failure::FailureFromIo;
 
 // A sheet as it was read or unpacked.
 #[derive(Clone, Copy)]
@@ -81,7 +81,11 @@ fn below(heap: Global, nodes: &[Node], i: u16) -> Result<Vec<u16>, AllocError> {
         View::Plus { left, right } => Ok(vec![in heap; left, right]?),
         View::Conc { left, right } => Ok(vec![in heap; left, right]?),
         View::Assign { target, value } => Ok(vec![in heap; target, value]?),
-        View::If { test, then, otherwise } => Ok(vec![in heap; test, then, otherwise]?),
+        View::If {
+            test,
+            then,
+            otherwise,
+        } => Ok(vec![in heap; test, then, otherwise]?),
         View::While { test, body } => Ok(vec![in heap; test, body]?),
         View::Series { .. } => statements(heap, nodes, i),
         _ => Ok(Vec::new(heap)),
@@ -89,7 +93,13 @@ fn below(heap: Global, nodes: &[Node], i: u16) -> Result<Vec<u16>, AllocError> {
 }
 
 // Draws what stands below node i, as a list of folders is drawn.
-fn branches(heap: Global, out: &mut String, sheet: Sheet<'_>, i: u16, before: &str) -> Result<(), AllocError> {
+fn branches(
+    heap: Global,
+    out: &mut String,
+    sheet: Sheet<'_>,
+    i: u16,
+    before: &str,
+) -> Result<(), AllocError> {
     let all = below(heap, sheet.nodes, i)?;
     let count = all.len();
     for (k, child) in all.iter().enumerate() {
@@ -159,7 +169,11 @@ pub fn show(rt: &LibcRuntime, file: &str) -> Result<(), Failure> {
     match read(letters, &mut all) {
         Ok(sizes) => {
             let count = (sizes.nodes as usize).min(NODES);
-            let sheet = Sheet { letters, nodes: &all[0..count], variables: sizes.variables as usize };
+            let sheet = Sheet {
+                letters,
+                nodes: &all[0..count],
+                variables: sizes.variables as usize,
+            };
             let picture = drawn(heap, sheet)?;
             let mut out = rt.stdout();
             out.write_all(picture.as_bytes())?;

@@ -56,7 +56,7 @@ length-lay f n (sheet d a) = simp length-append (omega (arith, length-lay f n d,
 
 -- the nodes of two trees and then one more, written one after another
 pub write-two : (f : Part → ℕ) (xs : List Node) (n : ℕ) (x y : Tree) (b : Node) (m k : ℕ) → m ≡ n + size x → k ≡ m + size y →
-  write (write (write xs n (lay f n x)) m (lay f m y)) k (b ∷ []) ≡ write xs n (lay f n x ++ (lay f (n + size x) y ++ (b ∷ [])))
+    write (write (write xs n (lay f n x)) m (lay f m y)) k (b ∷ []) ≡ write xs n (lay f n x ++ (lay f (n + size x) y ++ (b ∷ [])))
 write-two f xs n x y b m k e d =
     write-on (write xs n (lay f n x)) m (lay f m y) (b ∷ []) k (omega (arith, length-lay f m y))
     ∙ (write-on xs n (lay f n x) (lay f m y ++ (b ∷ [])) m (omega (arith, length-lay f n x)) ∙ ap (λ j. write xs n (lay f n x ++ (lay f j y ++ (b ∷ [])))) e)
@@ -91,9 +91,9 @@ joint-reads t w k e =
     ⊎-elim
     (λ i. subst (Joint t w) (let j = sym (e ∙ cond-true (is-word Plus w) _ _ i) in cc) (record { before = sum; laid = λ f n x y. refl; sized = λ x y. refl; goes-on = λ e g. plus-at t g e w i }))
     (λ i. ⊎-elim
-        (λ j. subst (Joint t w) (let l = sym (e ∙ (cond-false (is-word Plus w) _ _ i ∙ cond-true (is-word Join w) _ _ j)) in cc) (record { before = chain; laid = λ f n x y. refl; sized = λ x y. refl; goes-on = λ e g. join-at t g e w j }))
-        (λ j. apart (let l = e ∙ (cond-false (is-word Plus w) _ _ i ∙ cond-false (is-word Join w) _ _ j) in cc))
-        (cases-bool (is-word Join w)))
+    (λ j. subst (Joint t w) (let l = sym (e ∙ (cond-false (is-word Plus w) _ _ i ∙ cond-true (is-word Join w) _ _ j)) in cc) (record { before = chain; laid = λ f n x y. refl; sized = λ x y. refl; goes-on = λ e g. join-at t g e w j }))
+    (λ j. apart (let l = e ∙ (cond-false (is-word Plus w) _ _ i ∙ cond-false (is-word Join w) _ _ j) in cc))
+    (cases-bool (is-word Join w)))
     (cases-bool (is-word Plus w))
 
 pub no-joint-reads : (t : List ℕ) (w : Found) → None ≡ joint-of w → (e : Tree) (g : For) → at t (tail g e) w ≡ at t (leaving g e) w
@@ -101,9 +101,9 @@ no-joint-reads t w e =
     ⊎-elim
     (λ i. apart (let j = e ∙ cond-true (is-word Plus w) _ _ i in cc))
     (λ i. ⊎-elim
-        (λ j. apart (let l = e ∙ (cond-false (is-word Plus w) _ _ i ∙ cond-true (is-word Join w) _ _ j) in cc))
-        (λ j. λ e g. no-joint-at t g e w i j)
-        (cases-bool (is-word Join w)))
+    (λ j. apart (let l = e ∙ (cond-false (is-word Plus w) _ _ i ∙ cond-true (is-word Join w) _ _ j) in cc))
+    (λ j. λ e g. no-joint-at t g e w i j)
+    (cases-bool (is-word Join w)))
     (cases-bool (is-word Plus w))
 
 -- the word in hand, where it is not the end
@@ -136,21 +136,21 @@ group-reads t f (wrong m z) e c g = refl
 
 -- a part that is refused
 pub refused-in : {C : Type 0} (before : C → State) (after : C → Tree → State) (t : List ℕ) (w : Found) (f : Part → ℕ) (n : ℕ) (xs ys : List Node) (r : Result Ahead Fault) (e : Fault) → r ≡ Err e →
-  ((c : C) → at t (before c) w ≡ fault (e .refusal) (e .place)) → Read-as before after t w f n xs ys r
+    ((c : C) → at t (before c) w ≡ fault (e .refusal) (e .place)) → Read-as before after t w f n xs ys r
 refused-in before after t w f n xs ys r e i h = subst (λ (x : Result Ahead Fault). Read-as before after t w f n xs ys x) (sym i) h
 
 -- a part that ends by another, with the nodes of both
 pub ends-by : {C D : Type 0} (before : C → State) (after : C → Tree → State) (before′ : D → State) (after′ : D → Tree → State) (t : List ℕ) (w w′ : Found) (f : Part → ℕ) (n : ℕ) (xs ys : List Node) (r : Result Ahead Fault) →
-  Read-as before′ after′ t w′ f n xs ys r → (g : C → D) → ((c : C) → at t (before c) w ≡ at t (before′ (g c)) w′) → ((c : C) (x : Tree) (v : Found) → at t (after′ (g c) x) v ≡ at t (after c x) v) →
-  Read-as before after t w f n xs ys r
+    Read-as before′ after′ t w′ f n xs ys r → (g : C → D) → ((c : C) → at t (before c) w ≡ at t (before′ (g c)) w′) → ((c : C) (x : Tree) (v : Found) → at t (after′ (g c) x) v ≡ at t (after c x) v) →
+    Read-as before after t w f n xs ys r
 ends-by before after before′ after′ t w w′ f n xs ys (Ok a) h g i j =
     record { tree = h .tree; count = h .count; nodes = h .nodes; goes-on = λ c. i c ∙ (h .goes-on (g c) ∙ j c (h .tree) (token (a .token))) }
 ends-by before after before′ after′ t w w′ f n xs ys (Err e) h g i j = λ c. i c ∙ h (g c)
 
 -- two trees and a node of kind k above them
 pub laid-two : (f : Part → ℕ) (xs ys : List Node) (n : ℕ) (x y : Tree) (k c1 c2 : ℕ) → c1 ≡ n + size x → c2 ≡ c1 + size y →
-  ys ≡ write (write (write xs n (lay f n x)) c1 (lay f c1 y)) c2 (node k (c1 - 1) (c2 - 1) 0 ∷ []) →
-  ys ≡ write xs n (lay f n x ++ (lay f (n + size x) y ++ (node k (n + size x - 1) (n + size x + size y - 1) 0 ∷ [])))
+    ys ≡ write (write (write xs n (lay f n x)) c1 (lay f c1 y)) c2 (node k (c1 - 1) (c2 - 1) 0 ∷ []) →
+    ys ≡ write xs n (lay f n x ++ (lay f (n + size x) y ++ (node k (n + size x - 1) (n + size x + size y - 1) 0 ∷ [])))
 laid-two f xs ys n x y k c1 c2 e d h =
     let d2 : c2 ≡ n + size x + size y = omega arith in
     h ∙ (write-two f xs n x y (node k (c1 - 1) (c2 - 1) 0) c1 c2 e d
@@ -158,7 +158,7 @@ laid-two f xs ys n x y k c1 c2 e d h =
 
 -- three trees and a choice above them
 pub laid-choice : (f : Part → ℕ) (xs ys : List Node) (n : ℕ) (x y z : Tree) (c1 c2 c3 : ℕ) → c1 ≡ n + size x → c2 ≡ c1 + size y → c3 ≡ c2 + size z →
-  ys ≡ write (write (write (write xs n (lay f n x)) c1 (lay f c1 y)) c2 (lay f c2 z)) c3 (node 8 (c1 - 1) (c2 - 1) (c3 - 1) ∷ []) → ys ≡ write xs n (lay f n (choose x y z))
+    ys ≡ write (write (write (write xs n (lay f n x)) c1 (lay f c1 y)) c2 (lay f c2 z)) c3 (node 8 (c1 - 1) (c2 - 1) (c3 - 1) ∷ []) → ys ≡ write xs n (lay f n (choose x y z))
 laid-choice f xs ys n x y z c1 c2 c3 e d g h =
     let d2 : c2 ≡ n + size x + size y = omega arith in
     let d3 : c3 ≡ n + size x + size y + size z = omega arith in
@@ -167,10 +167,10 @@ laid-choice f xs ys n x y z c1 c2 c3 e d g h =
     ∙ (write-on xs n (lay f n x) (lay f c1 y ++ (lay f (c1 + size y) z ++ (b ∷ []))) c1 (omega (arith, length-lay f n x))
     ∙ (ap (λ i. write xs n (lay f n x ++ (lay f i y ++ (lay f (i + size y) z ++ (b ∷ []))))) e
     ∙ ap (λ (b : Node). write xs n (lay f n x ++ (lay f (n + size x) y ++ (lay f (n + size x + size y) z ++ (b ∷ [])))))
-      (ap (λ i. node 8 (i - 1) (c2 - 1) (c3 - 1)) e ∙ (ap (λ i. node 8 (n + size x - 1) (i - 1) (c3 - 1)) d2 ∙ ap (λ i. node 8 (n + size x - 1) (n + size x + size y - 1) (i - 1)) d3)))))
+    (ap (λ i. node 8 (i - 1) (c2 - 1) (c3 - 1)) e ∙ (ap (λ i. node 8 (n + size x - 1) (i - 1) (c3 - 1)) d2 ∙ ap (λ i. node 8 (n + size x - 1) (n + size x + size y - 1) (i - 1)) d3)))))
 
 pub laid-assign : (f : Part → ℕ) (xs ys : List Node) (n : ℕ) (p : Part) (e : Tree) (c : ℕ) → c ≡ n + 1 + size e →
-  ys ≡ write (write (write xs n (node 2 (p .place) (p .size) (f p) ∷ [])) (n + 1) (lay f (n + 1) e)) c (node 7 n (c - 1) 0 ∷ []) → ys ≡ write xs n (lay f n (assign p e))
+    ys ≡ write (write (write xs n (node 2 (p .place) (p .size) (f p) ∷ [])) (n + 1) (lay f (n + 1) e)) c (node 7 n (c - 1) 0 ∷ []) → ys ≡ write xs n (lay f n (assign p e))
 laid-assign f xs ys n p e c i h =
     let d : c - 1 ≡ n + size e = omega arith in
     let v = node 2 (p .place) (p .size) (f p) in
@@ -182,16 +182,16 @@ pub type-refused : (t : List ℕ) (w : Found) (r : Result Typed Fault) (e : Faul
 type-refused t w r e i h = subst (λ (x : Result Typed Fault). Typed-as t w x) (sym i) h
 
 pub declaration-refused : (t : List ℕ) (w : Found) (n : ℕ) (xs ys : List Node) (es ds : List (Entry Declared)) (r : Result W.Token Fault) (e : Fault) → r ≡ Err e →
-  ((g : Given) → at t (naming g) w ≡ fault (e .refusal) (e .place)) → Declared-as t w n xs ys es ds r
+    ((g : Given) → at t (naming g) w ≡ fault (e .refusal) (e .place)) → Declared-as t w n xs ys es ds r
 declaration-refused t w n xs ys es ds r e i h = subst (λ (x : Result W.Token Fault). Declared-as t w n xs ys es ds x) (sym i) h
 
 pub list-refused : (t : List ℕ) (d : Tree) (w : Found) (xs ys : List Node) (es ds : List (Entry Declared)) (r : Result Ahead Fault) (e : Fault) → r ≡ Err e →
-  at t (declared d) w ≡ fault (e .refusal) (e .place) → Listed-as t d w xs ys es ds r
+    at t (declared d) w ≡ fault (e .refusal) (e .place) → Listed-as t d w xs ys es ds r
 list-refused t d w xs ys es ds r e i h = subst (λ (x : Result Ahead Fault). Listed-as t d w xs ys es ds x) (sym i) h
 
 -- one declaration more
 pub listed-more : (d : Tree) (n : ℕ) (xs ys zs : List Node) (es ds fs : List (Entry Declared)) (p : Part) (s : Sort) → Listed d n xs ys es ds → zs ≡ write ys n (declaration p s ∷ []) → fs ≡ write ds n (entry p s n ∷ []) →
-  Listed (also d p s) (n + 1) xs zs es fs
+    Listed (also d p s) (n + 1) xs zs es fs
 listed-more d n xs ys zs es ds fs p s l h k = record {
   count = omega (arith, l .count);
   sized = simp length-append (omega (arith, l .sized));

@@ -42,12 +42,14 @@ ahead t p x q e =
         let b = run-le layout t (length t) (omega arith) in
         let n : found t p ≡ nothing-left (runs-to layout t (length t)) = ap (λ n. seen (word-at t (runs-to layout t n))) m ∙ ap seen (word-none t (runs-to layout t (length t)) (omega arith)) in
         cc
+
     is-next : (k : Lex) (pl nx : ℕ) → seen-as k pl nx ≡ word x q → (moves k ≡ 1) × (nx ≡ q)
     is-next (L.name w) pl nx e = (refl, cc)
     is-next (L.number w v) pl nx e = (refl, cc)
     is-next (L.text w) pl nx e = (refl, cc)
     is-next (L.fixed w) pl nx e = (refl, cc)
     is-next L.end pl nx e = apart (cc)
+
     on : p ≤ length t → (r : Scanned) → after t p ≡ r → seen r ≡ word x q → (p < q) × (q ≤ length t)
     on l (Err f) i e = apart (cc)
     on l (Ok s) i e =
@@ -62,6 +64,7 @@ module _ (t : List ℕ) where
       fed : (x : Token) (q : ℕ) → found t p ≡ word x q → (m : Move) → feed s x ≡ m → from t s p ≡ elim m [ go y ↦ from t y q | no ↦ refused (wholeOf s) (place x) ]
       fed x q e (go y) f = at-word (found t) (length t) (ahead t) s y p x q e f
       fed x q e no f = at-refused (found t) (length t) (ahead t) s p x q e f
+
       go-on : (f : Found) → found t p ≡ f → from t s p ≡ at t s f
       go-on (word x q) e = fed x q e (feed s x) refl
       go-on (nothing-left z) e = at-stop (found t) (length t) (ahead t) s p z e
@@ -145,6 +148,7 @@ module _ (t : List ℕ) where
       none-else (name n) q e i = h .named n
       none-else (number v p) q e i = h .leaf (constant v)
       none-else (text n) q e i = h .leaf (letters n)
+
       by : (b : Bool) → is-word w f ≡ b → at t s f ≡ at t x (elim b [ true ↦ behind t f | false ↦ unexpected f ])
       by true e = on-word t w s x (λ v i. h .word-is v ∙ ap (λ b. when b x) i) f e
       by false e = refuses t s (h .more-to-come) f (λ y q i. none-else y q i e) x
@@ -252,11 +256,12 @@ module _ (t : List ℕ) where
 
   -- the second of two words that s allows, where the first is not in hand
   second : (c w : Fixed) (s x y : State) → ((v : Fixed) → onFixed s v ≡ or (same v c) x (when (same v w) y)) → ((m : Part) → onName s m ≡ no) → ((e : Tree) → onLeaf s e ≡ no) → wholeOf s ≡ not →
-    (f : Found) → is-word c f ≡ false → at t s f ≡ at t y (expected t w f)
+      (f : Found) → is-word c f ≡ false → at t s f ≡ at t y (expected t w f)
   second c w s x y h m l n (word (fixed v p) q) i = by (same v w) refl
     where
       first : onFixed s v ≡ when (same v w) y
       first = h v ∙ ap (λ b. or b x (when (same v w) y)) i
+
       by : (b : Bool) → same v w ≡ b → at t s (word (fixed v p) q) ≡ at t y (elim b [ true ↦ found t q | false ↦ wrong R.Unexpected p ])
       by true e = moved t s (fixed v p) q y (first ∙ ap (λ b. when b y) e)
       by false e = stuck t s (fixed v p) q (first ∙ ap (λ b. when b y) e) n

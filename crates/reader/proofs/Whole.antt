@@ -69,7 +69,7 @@ taken-row z bs n h = ap (take (length bs)) (write-row z bs [] n h) ∙ take-at b
 
 -- the nodes of a whole sheet, its names looked up in the table
 pub laid-whole : (t : List ℕ) (d a : Tree) (n : ℕ) (xs ys zs : List Node) (z : Entry Declared) (es ds ns : List (Entry Declared)) → Listed d n xs ys es ds → zs ≡ write ys n (lay (number-in t ns) n a) →
-  es ≡ replicate (length es) z → ns ≡ take (min n (length ds)) ds → length ds ≡ length es → size (sheet d a) ≤ length es → zs ≡ write xs 0 (laid t (sheet d a))
+    es ≡ replicate (length es) z → ns ≡ take (min n (length ds)) ds → length ds ≡ length es → size (sheet d a) ≤ length es → zs ≡ write xs 0 (laid t (sheet d a))
 laid-whole t d a n xs ys zs z es ds ns l h row slice long fits =
     let c = l .count in
     let m : min n (length ds) ≡ length (entries d) = omega (arith, l .sized) in
@@ -82,11 +82,10 @@ laid-whole t d a n xs ys zs z es ds ns l h row slice long fits =
 
 -- what Read answers and leaves
 pub read-fits : (t : List ℕ) (g : ℕ) (xs ys : List Node) (es : List (Entry Declared)) (z : Sizes) → Said t xs ys es z → xs ≡ replicate g blank → (e : Entry Declared) → es ≡ replicate (length es) e → length es ≡ most-nodes → z .nodes ≤ places g →
-  (_≡_ {A = Result Sizes Fault} (Ok z) (counted g (sheet-in t))) × (ys ≡ filled t g (sheet-in t))
+    (_≡_ {A = Result Sizes Fault} (Ok z) (counted g (sheet-in t))) × (ys ≡ filled t g (sheet-in t))
 read-fits t g xs ys es z s x e r k h =
     let fits = le-leb (size (s .tree)) (places g) (omega (arith, s .nodes)) in
-    let l = length-lay (number-in t (entries (s .tree))) 0 (s .tree) in
-    (
+    let l = length-lay (number-in t (entries (s .tree))) 0 (s .tree) in (
       ap (λ (k : ℕ). Ok (record { nodes = k; variables = z .variables })) (s .nodes) ∙ (ap (λ (k : ℕ). Ok (record { nodes = size (s .tree); variables = k })) (s .variables) ∙ sym (ap (counted g) (s .says) ∙ cond-true _ _ _ fits)),
       s .laid-out e r (omega (arith, s .nodes)) ∙ (ap (λ (l : List Node). write l 0 (laid t (s .tree))) x ∙ (write-row blank (laid t (s .tree)) [] g (omega (arith, s .nodes, l)) ∙ (ap (λ k. laid t (s .tree) ++ replicate (g - k) blank) l ∙ sym (ap (filled t g) (s .says) ∙ cond-true _ _ _ fits)))),
     )

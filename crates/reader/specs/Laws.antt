@@ -44,7 +44,7 @@ Meant = (t : List ℕ) (given : ℕ) → Stands-for t given (read-says t given)
 -- what is derived, within the limits, is accepted, with the nodes of that tree
 abbrev pub Complete : Type 0
 Complete = (t : List ℕ) (given : ℕ) (s : Tree) (z : ℕ) → length t ≤ most-letters → last-of t ≡ stop z → Derives Sheet (words-of t) s → size s ≤ places given →
-  (read-says t given ≡ Ok (record { nodes = size s; variables = length (entries s) })) × (read-nodes t given ≡ laid t s ++ replicate (given - size s) blank)
+    (read-says t given ≡ Ok (record { nodes = size s; variables = length (entries s) })) × (read-nodes t given ≡ laid t s ++ replicate (given - size s) blank)
 
 -- where a refusal is meant, it is told
 abbrev pub Exact : Type 0

@@ -41,15 +41,27 @@ fn kind<'a>(text: &'a [u8], token: Token<'a>) -> Result<Typed<'a>, Fault>
 {
     if is(token, Fixed::Integer) {
         let next = step(text, token)?;
-        Ok(Typed { token: next, kind: INTEGER })
+        Ok(Typed {
+            token: next,
+            kind: INTEGER,
+        })
     } else {
         let next = expect(text, token, Fixed::String)?;
-        Ok(Typed { token: next, kind: STRING })
+        Ok(Typed {
+            token: next,
+            kind: STRING,
+        })
     }
 }
 
 // Name, `:` and type: the node and the entry at the count.
-pub(crate) fn declaration<'a>(text: &'a [u8], token: Token<'a>, out: &mut [Node], table: &mut [Entry<Declared>], count: u16) -> Result<Token<'a>, Fault>
+pub(crate) fn declaration<'a>(
+    text: &'a [u8],
+    token: Token<'a>,
+    out: &mut [Node],
+    table: &mut [Entry<Declared>],
+    count: u16,
+) -> Result<Token<'a>, Fault>
     requires { ⌜ Stands (now text) 0 token × Space (now text) token count ⌝ }
     ensures on { λ r. ⌜ made r (λ w. Stands (now (text .entry)) (token .entry .place + 1) w) ⌝ }
     ensures is { λ r. ⌜ Declared-as (now (text .entry)) (token-of (token .entry)) count (now (out .entry)) (now (out .exit)) (now (table .entry)) (now (table .exit)) r ⌝ }
@@ -61,8 +73,28 @@ pub(crate) fn declaration<'a>(text: &'a [u8], token: Token<'a>, out: &mut [Node]
             let colon = step(text, token)?;
             let start = expect(text, colon, Fixed::Colon)?;
             let typed = kind(text, start)?;
-            put(out, count, Node { kind: DECLARATION, a: place as u16, b: size as u16, c: typed.kind });
-            put(table, count, Entry { place, size, value: Declared { kind: typed.kind, number: count } });
+            put(
+                out,
+                count,
+                Node {
+                    kind: DECLARATION,
+                    a: place as u16,
+                    b: size as u16,
+                    c: typed.kind,
+                },
+            );
+            put(
+                table,
+                count,
+                Entry {
+                    place,
+                    size,
+                    value: Declared {
+                        kind: typed.kind,
+                        number: count,
+                    },
+                },
+            );
             Ok(typed.token)
         }
         _ => Err(unexpected(token)),
@@ -70,7 +102,13 @@ pub(crate) fn declaration<'a>(text: &'a [u8], token: Token<'a>, out: &mut [Node]
 }
 
 // What follows a declaration: a comma and another, or `;`.
-pub(crate) fn others<'a>(text: &'a [u8], token: Token<'a>, out: &mut [Node], table: &mut [Entry<Declared>], count: u16) -> Result<Ahead<'a>, Fault>
+pub(crate) fn others<'a>(
+    text: &'a [u8],
+    token: Token<'a>,
+    out: &mut [Node],
+    table: &mut [Entry<Declared>],
+    count: u16,
+) -> Result<Ahead<'a>, Fault>
     requires { ⌜ Stands (now text) 0 token × Space (now text) token count ⌝ }
     ensures on { λ r. ⌜ made r (λ a. Stands (now (text .entry)) (token .entry .place) (a .token) × (count ≤ a .count) × (a .count + 2 * token .entry .place ≤ count + 2 * a .token .place)) ⌝ }
     ensures is { λ r. ⌜ ((d : Tree) (xs : List Node) (es : List (Entry Declared)) → Listed d count xs (now (out .entry)) es (now (table .entry)) → Listed-as (now (text .entry)) d (token-of (token .entry)) xs (now (out .exit)) es (now (table .exit)) r) ⌝ }

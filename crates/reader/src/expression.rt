@@ -44,13 +44,23 @@ pub(crate) fn variable(text: &[u8], names: &[Entry<Declared>], place: usize, nex
         Some(declared) => declared.number,
         None => UNDECLARED,
     };
-    Node { kind: VARIABLE, a: place as u16, b: (next - place) as u16, c: number }
+    Node {
+        kind: VARIABLE,
+        a: place as u16,
+        b: (next - place) as u16,
+        c: number,
+    }
 }
 
 fn number(value: u32) -> Node
     ensures { λ r. ⌜ r ≡ halves value ⌝ }
 {
-    Node { kind: NUMBER, a: (value % 65536) as u16, b: (value / 65536) as u16, c: 0 }
+    Node {
+        kind: NUMBER,
+        a: (value % 65536) as u16,
+        b: (value / 65536) as u16,
+        c: 0,
+    }
 }
 
 // The node of the word in hand, where that is a term by itself.
@@ -84,7 +94,13 @@ fn joint(token: Token<'_>) -> Option<u8>
     }
 }
 
-pub(crate) fn expression<'a>(text: &'a [u8], names: &[Entry<Declared>], token: Token<'a>, out: &mut [Node], count: u16) -> Result<Ahead<'a>, Fault>
+pub(crate) fn expression<'a>(
+    text: &'a [u8],
+    names: &[Entry<Declared>],
+    token: Token<'a>,
+    out: &mut [Node],
+    count: u16,
+) -> Result<Ahead<'a>, Fault>
     requires { ⌜ Stands (now text) 0 token × Room (now text) token count ⌝ }
     ensures on { λ r. ⌜ made r (Moves-on (now (text .entry)) (token .entry) count) ⌝ }
     ensures is { λ r. ⌜ Read-as (open-term start) leaving (now (text .entry)) (token-of (token .entry)) (number-in (now (text .entry)) (now (names .entry))) count (now (out .entry)) (now (out .exit)) r ⌝ }
@@ -94,7 +110,12 @@ pub(crate) fn expression<'a>(text: &'a [u8], names: &[Entry<Declared>], token: T
 }
 
 // What may follow a term: another, joined to all before it.
-fn more<'a>(text: &'a [u8], names: &[Entry<Declared>], left: Ahead<'a>, out: &mut [Node]) -> Result<Ahead<'a>, Fault>
+fn more<'a>(
+    text: &'a [u8],
+    names: &[Entry<Declared>],
+    left: Ahead<'a>,
+    out: &mut [Node],
+) -> Result<Ahead<'a>, Fault>
     requires { ⌜ Stands (now text) 0 (left .token) × Room (now text) (left .token) (left .count) × (1 ≤ left .count) ⌝ }
     ensures on { λ r. ⌜ made r (λ a. Stands (now (text .entry)) (left .entry .token .place) (a .token) × (left .entry .count ≤ a .count) × (a .count + left .entry .token .place ≤ left .entry .count + a .token .place)) ⌝ }
     ensures is { λ r. ⌜ ((e : Tree) (n : ℕ) (xs : List Node) → left .entry .count ≡ n + size e → now (out .entry) ≡ write xs n (lay (number-in (now (text .entry)) (now (names .entry))) n e) → Read-as (λ f. tail f e) leaving (now (text .entry)) (token-of (left .entry .token)) (number-in (now (text .entry)) (now (names .entry))) n xs (now (out .exit)) r) ⌝ }
@@ -105,13 +126,27 @@ fn more<'a>(text: &'a [u8], names: &[Entry<Declared>], left: Ahead<'a>, out: &mu
             let start = step(text, left.token)?;
             let right = operand(text, names, start, out, left.count)?;
             put(out, right.count, above(kind, left.count, right.count));
-            more(text, names, Ahead { token: right.token, count: right.count + 1 }, out)
+            more(
+                text,
+                names,
+                Ahead {
+                    token: right.token,
+                    count: right.count + 1,
+                },
+                out,
+            )
         }
     }
 }
 
 // The right operand: one term, so that terms are joined from left to right.
-fn operand<'a>(text: &'a [u8], names: &[Entry<Declared>], token: Token<'a>, out: &mut [Node], count: u16) -> Result<Ahead<'a>, Fault>
+fn operand<'a>(
+    text: &'a [u8],
+    names: &[Entry<Declared>],
+    token: Token<'a>,
+    out: &mut [Node],
+    count: u16,
+) -> Result<Ahead<'a>, Fault>
     requires { ⌜ Stands (now text) 0 token × Room (now text) token count ⌝ }
     ensures on { λ r. ⌜ made r (Moves-on (now (text .entry)) (token .entry) count) ⌝ }
     ensures is { λ r. ⌜ Read-as {C = Before × For} (λ c. open-term (c .0) (c .1)) (λ c e. tail (c .1) (with (c .0) e)) (now (text .entry)) (token-of (token .entry)) (number-in (now (text .entry)) (now (names .entry))) count (now (out .entry)) (now (out .exit)) r ⌝ }
@@ -120,7 +155,13 @@ fn operand<'a>(text: &'a [u8], names: &[Entry<Declared>], token: Token<'a>, out:
 }
 
 // A name, a number, a text constant, or an expression in parentheses.
-fn term<'a>(text: &'a [u8], names: &[Entry<Declared>], token: Token<'a>, out: &mut [Node], count: u16) -> Result<Ahead<'a>, Fault>
+fn term<'a>(
+    text: &'a [u8],
+    names: &[Entry<Declared>],
+    token: Token<'a>,
+    out: &mut [Node],
+    count: u16,
+) -> Result<Ahead<'a>, Fault>
     requires { ⌜ Stands (now text) 0 token × Room (now text) token count ⌝ }
     ensures on { λ r. ⌜ made r (Moves-on (now (text .entry)) (token .entry) count) ⌝ }
     ensures is { λ r. ⌜ Read-as {C = Before × For} (λ c. open-term (c .0) (c .1)) (λ c e. tail (c .1) (with (c .0) e)) (now (text .entry)) (token-of (token .entry)) (number-in (now (text .entry)) (now (names .entry))) count (now (out .entry)) (now (out .exit)) r ⌝ }
@@ -129,13 +170,19 @@ fn term<'a>(text: &'a [u8], names: &[Entry<Declared>], token: Token<'a>, out: &m
         Some(node) => {
             put(out, count, node);
             let next = step(text, token)?;
-            Ok(Ahead { token: next, count: count + 1 })
+            Ok(Ahead {
+                token: next,
+                count: count + 1,
+            })
         }
         None => {
             let start = expect(text, token, Fixed::Open)?;
             let inner = expression(text, names, start, out, count)?;
             let next = expect(text, inner.token, Fixed::Close)?;
-            Ok(Ahead { token: next, count: inner.count })
+            Ok(Ahead {
+                token: next,
+                count: inner.count,
+            })
         }
     }
 }

@@ -37,10 +37,18 @@ pub struct Sizes {
     pub variables: u16,
 }
 
-const NO_NAME: Entry<Declared> = Entry { place: 0, size: 0, value: Declared { kind: 0, number: 0 } };
+const NO_NAME: Entry<Declared> = Entry {
+    place: 0,
+    size: 0,
+    value: Declared { kind: 0, number: 0 },
+};
 
 // `begin`, `declare` and all declarations: their nodes, and the table of their names.
-fn opening<'a>(text: &'a [u8], out: &mut [Node], table: &mut [Entry<Declared>]) -> Result<Ahead<'a>, Fault>
+fn opening<'a>(
+    text: &'a [u8],
+    out: &mut [Node],
+    table: &mut [Entry<Declared>],
+) -> Result<Ahead<'a>, Fault>
     requires { ⌜ length (now text) ≤ most-letters ⌝ }
     ensures on { λ r. ⌜ made r (λ a. Stands (now (text .entry)) 0 (a .token) × (a .count ≤ 2 * a .token .place)) ⌝ }
     ensures is { λ r. ⌜ Opened-as (now (text .entry)) (now (out .entry)) (now (out .exit)) (now (table .entry)) (now (table .exit)) r ⌝ }
@@ -53,13 +61,21 @@ fn opening<'a>(text: &'a [u8], out: &mut [Node], table: &mut [Entry<Declared>]) 
 }
 
 // The series, and the `end` behind it.
-fn body<'a>(text: &'a [u8], names: &[Entry<Declared>], declared: Ahead<'a>, out: &mut [Node]) -> Result<Ahead<'a>, Fault>
+fn body<'a>(
+    text: &'a [u8],
+    names: &[Entry<Declared>],
+    declared: Ahead<'a>,
+    out: &mut [Node],
+) -> Result<Ahead<'a>, Fault>
     requires { ⌜ Stands (now text) 0 (declared .token) × Space (now text) (declared .token) (declared .count) ⌝ }
     ensures { λ r. ⌜ Read-as {C = Tree} (λ d. open-series (whole d)) (λ d a. over (sheet-tree d a)) (now (text .entry)) (token-of (declared .entry .token)) (number-in (now (text .entry)) (now (names .entry))) (declared .entry .count) (now (out .entry)) (now (out .exit)) r ⌝ }
 {
     let all = series(text, names, declared.token, out, declared.count)?;
     let next = expect(text, all.token, Fixed::End)?;
-    Ok(Ahead { token: next, count: all.count })
+    Ok(Ahead {
+        token: next,
+        count: all.count,
+    })
 }
 
 // Reads a whole sheet into nodes that are as yet blank, with a table for the names. After a fault they hold anything.
@@ -67,15 +83,24 @@ fn sheet(text: &[u8], out: &mut [Node], table: &mut [Entry<Declared>]) -> Result
     ensures { λ r. ⌜ Sheet-as (now (text .entry)) (now (out .entry)) (now (out .exit)) (now (table .entry)) r ⌝ }
 {
     if text.len() > LETTERS {
-        return Err(Fault { refusal: Refusal::LongSheet, place: LETTERS });
+        return Err(Fault {
+            refusal: Refusal::LongSheet,
+            place: LETTERS,
+        });
     }
     let declared = opening(text, out, table)?;
     let known = (declared.count as usize).min(table.len());
     let all = body(text, &table[0..known], declared, out)?;
     let token = all.token;
     match token.word {
-        Word::End => Ok(Sizes { nodes: all.count, variables: declared.count }),
-        _ => Err(Fault { refusal: Refusal::AfterEnd, place: token.place }),
+        Word::End => Ok(Sizes {
+            nodes: all.count,
+            variables: declared.count,
+        }),
+        _ => Err(Fault {
+            refusal: Refusal::AfterEnd,
+            place: token.place,
+        }),
     }
 }
 
@@ -103,7 +128,10 @@ pub fn read(text: &[u8], nodes: &mut [Node]) -> Result<Sizes, Fault>
         Ok(sizes) => {
             if sizes.nodes as usize > NODES.min(nodes.len()) {
                 wipe(nodes);
-                return Err(Fault { refusal: Refusal::ManyNodes, place: 0 });
+                return Err(Fault {
+                    refusal: Refusal::ManyNodes,
+                    place: 0,
+                });
             }
             Ok(sizes)
         }

@@ -58,10 +58,21 @@ fn begins_with(token: Token<'_>) -> Start
 }
 
 // The empty series.
-const NOTHING: Node = Node { kind: EMPTY, a: 0, b: 0, c: 0 };
+const NOTHING: Node = Node {
+    kind: EMPTY,
+    a: 0,
+    b: 0,
+    c: 0,
+};
 
 // Name, `:=` and expression; the name is in hand.
-fn assignment<'a>(text: &'a [u8], names: &[Entry<Declared>], token: Token<'a>, out: &mut [Node], count: u16) -> Result<Ahead<'a>, Fault>
+fn assignment<'a>(
+    text: &'a [u8],
+    names: &[Entry<Declared>],
+    token: Token<'a>,
+    out: &mut [Node],
+    count: u16,
+) -> Result<Ahead<'a>, Fault>
     requires { ⌜ Stands (now text) 0 token × Space (now text) token count × (start-of (token-of token) ≡ Start.Assignment) ⌝ }
     ensures on { λ r. ⌜ made r (Past-statement (now (text .entry)) (token .entry) count) ⌝ }
     ensures is { λ r. ⌜ Read-as open-series done (now (text .entry)) (token-of (token .entry)) (number-in (now (text .entry)) (now (names .entry))) count (now (out .entry)) (now (out .exit)) r ⌝ }
@@ -70,12 +81,30 @@ fn assignment<'a>(text: &'a [u8], names: &[Entry<Declared>], token: Token<'a>, o
     let becomes = step(text, token)?;
     let start = expect(text, becomes, Fixed::Becomes)?;
     let value = expression(text, names, start, out, count + 1)?;
-    put(out, value.count, Node { kind: ASSIGN, a: count, b: value.count - 1, c: 0 });
-    Ok(Ahead { token: value.token, count: value.count + 1 })
+    put(
+        out,
+        value.count,
+        Node {
+            kind: ASSIGN,
+            a: count,
+            b: value.count - 1,
+            c: 0,
+        },
+    );
+    Ok(Ahead {
+        token: value.token,
+        count: value.count + 1,
+    })
 }
 
 // `if` expression `then` series `else` series `fi`; the `if` is in hand.
-fn choice<'a>(text: &'a [u8], names: &[Entry<Declared>], token: Token<'a>, out: &mut [Node], count: u16) -> Result<Ahead<'a>, Fault>
+fn choice<'a>(
+    text: &'a [u8],
+    names: &[Entry<Declared>],
+    token: Token<'a>,
+    out: &mut [Node],
+    count: u16,
+) -> Result<Ahead<'a>, Fault>
     requires { ⌜ Stands (now text) 0 token × Space (now text) token count × (start-of (token-of token) ≡ Start.Choice) ⌝ }
     ensures on { λ r. ⌜ made r (Past-statement (now (text .entry)) (token .entry) count) ⌝ }
     ensures is { λ r. ⌜ Read-as open-series done (now (text .entry)) (token-of (token .entry)) (number-in (now (text .entry)) (now (names .entry))) count (now (out .entry)) (now (out .exit)) r ⌝ }
@@ -87,12 +116,30 @@ fn choice<'a>(text: &'a [u8], names: &[Entry<Declared>], token: Token<'a>, out: 
     let other = expect(text, first.token, Fixed::Else)?;
     let second = series(text, names, other, out, first.count)?;
     let next = expect(text, second.token, Fixed::Fi)?;
-    put(out, second.count, Node { kind: IF, a: test.count - 1, b: first.count - 1, c: second.count - 1 });
-    Ok(Ahead { token: next, count: second.count + 1 })
+    put(
+        out,
+        second.count,
+        Node {
+            kind: IF,
+            a: test.count - 1,
+            b: first.count - 1,
+            c: second.count - 1,
+        },
+    );
+    Ok(Ahead {
+        token: next,
+        count: second.count + 1,
+    })
 }
 
 // `while` expression `do` series `od`; the `while` is in hand.
-fn repeat<'a>(text: &'a [u8], names: &[Entry<Declared>], token: Token<'a>, out: &mut [Node], count: u16) -> Result<Ahead<'a>, Fault>
+fn repeat<'a>(
+    text: &'a [u8],
+    names: &[Entry<Declared>],
+    token: Token<'a>,
+    out: &mut [Node],
+    count: u16,
+) -> Result<Ahead<'a>, Fault>
     requires { ⌜ Stands (now text) 0 token × Space (now text) token count × (start-of (token-of token) ≡ Start.Repeat) ⌝ }
     ensures on { λ r. ⌜ made r (Past-statement (now (text .entry)) (token .entry) count) ⌝ }
     ensures is { λ r. ⌜ Read-as open-series done (now (text .entry)) (token-of (token .entry)) (number-in (now (text .entry)) (now (names .entry))) count (now (out .entry)) (now (out .exit)) r ⌝ }
@@ -103,10 +150,19 @@ fn repeat<'a>(text: &'a [u8], names: &[Entry<Declared>], token: Token<'a>, out: 
     let body = series(text, names, begin, out, test.count)?;
     let next = expect(text, body.token, Fixed::Od)?;
     put(out, body.count, above(WHILE, test.count, body.count));
-    Ok(Ahead { token: next, count: body.count + 1 })
+    Ok(Ahead {
+        token: next,
+        count: body.count + 1,
+    })
 }
 
-fn statement<'a>(text: &'a [u8], names: &[Entry<Declared>], token: Token<'a>, out: &mut [Node], count: u16) -> Result<Ahead<'a>, Fault>
+fn statement<'a>(
+    text: &'a [u8],
+    names: &[Entry<Declared>],
+    token: Token<'a>,
+    out: &mut [Node],
+    count: u16,
+) -> Result<Ahead<'a>, Fault>
     requires { ⌜ Stands (now text) 0 token × Space (now text) token count × (begins (start-of (token-of token)) ≡ true) ⌝ }
     ensures on { λ r. ⌜ made r (Past-statement (now (text .entry)) (token .entry) count) ⌝ }
     ensures is { λ r. ⌜ Read-as open-series done (now (text .entry)) (token-of (token .entry)) (number-in (now (text .entry)) (now (names .entry))) count (now (out .entry)) (now (out .exit)) r ⌝ }
@@ -119,7 +175,13 @@ fn statement<'a>(text: &'a [u8], names: &[Entry<Declared>], token: Token<'a>, ou
 }
 
 // What follows a statement in its series: `;` and a series, or nothing.
-fn rest<'a>(text: &'a [u8], names: &[Entry<Declared>], token: Token<'a>, out: &mut [Node], count: u16) -> Result<Ahead<'a>, Fault>
+fn rest<'a>(
+    text: &'a [u8],
+    names: &[Entry<Declared>],
+    token: Token<'a>,
+    out: &mut [Node],
+    count: u16,
+) -> Result<Ahead<'a>, Fault>
     requires { ⌜ Stands (now text) 0 token × Space (now text) token count ⌝ }
     ensures on { λ r. ⌜ made r (Past-series (now (text .entry)) (token .entry) count) ⌝ }
     ensures is { λ r. ⌜ ((s : Tree) → Read-as (λ o. done o s) (λ o a. closing o (more s a)) (now (text .entry)) (token-of (token .entry)) (number-in (now (text .entry)) (now (names .entry))) count (now (out .entry)) (now (out .exit)) r) ⌝ }
@@ -129,11 +191,20 @@ fn rest<'a>(text: &'a [u8], names: &[Entry<Declared>], token: Token<'a>, out: &m
         series(text, names, next, out, count)
     } else {
         put(out, count, NOTHING);
-        Ok(Ahead { token, count: count + 1 })
+        Ok(Ahead {
+            token,
+            count: count + 1,
+        })
     }
 }
 
-pub(crate) fn series<'a>(text: &'a [u8], names: &[Entry<Declared>], token: Token<'a>, out: &mut [Node], count: u16) -> Result<Ahead<'a>, Fault>
+pub(crate) fn series<'a>(
+    text: &'a [u8],
+    names: &[Entry<Declared>],
+    token: Token<'a>,
+    out: &mut [Node],
+    count: u16,
+) -> Result<Ahead<'a>, Fault>
     requires { ⌜ Stands (now text) 0 token × Space (now text) token count ⌝ }
     ensures on { λ r. ⌜ made r (Past-series (now (text .entry)) (token .entry) count) ⌝ }
     ensures is { λ r. ⌜ Read-as open-series closing (now (text .entry)) (token-of (token .entry)) (number-in (now (text .entry)) (now (names .entry))) count (now (out .entry)) (now (out .exit)) r ⌝ }
@@ -141,13 +212,19 @@ pub(crate) fn series<'a>(text: &'a [u8], names: &[Entry<Declared>], token: Token
     match begins_with(token) {
         Start::Other => {
             put(out, count, NOTHING);
-            Ok(Ahead { token, count: count + 1 })
+            Ok(Ahead {
+                token,
+                count: count + 1,
+            })
         }
         _ => {
             let first = statement(text, names, token, out, count)?;
             let others = rest(text, names, first.token, out, first.count)?;
             put(out, others.count, above(SERIES, first.count, others.count));
-            Ok(Ahead { token: others.token, count: others.count + 1 })
+            Ok(Ahead {
+                token: others.token,
+                count: others.count + 1,
+            })
         }
     }
 }

@@ -55,19 +55,34 @@ pub(crate) fn step<'a>(text: &'a [u8], token: Token<'a>) -> Result<Token<'a>, Fa
 pub(crate) fn unexpected(token: Token<'_>) -> Fault
     ensures { λ r. ⌜ wrong (r .refusal) (r .place) ≡ unexpected-at (token-of (token .entry)) ⌝ }
 {
+    let place = token.place;
     match token.word {
-        Word::End => Fault { refusal: Refusal::EndsEarly, place: token.place },
-        _ => Fault { refusal: Refusal::Unexpected, place: token.place },
+        Word::End => Fault {
+            refusal: Refusal::EndsEarly,
+            place,
+        },
+        _ => Fault {
+            refusal: Refusal::Unexpected,
+            place,
+        },
     }
 }
 
 // The word after this fixed one, which has to be in hand.
-pub(crate) fn expect<'a>(text: &'a [u8], token: Token<'a>, wanted: Fixed) -> Result<Token<'a>, Fault>
+pub(crate) fn expect<'a>(
+    text: &'a [u8],
+    token: Token<'a>,
+    wanted: Fixed,
+) -> Result<Token<'a>, Fault>
     requires { ⌜ Stands (now text) 0 token ⌝ }
     ensures is { λ r. ⌜ outcome r ≡ expected (now (text .entry)) wanted (token-of (token .entry)) ⌝ }
     ensures on { λ r. ⌜ made r (λ w. Stands (now (text .entry)) (token .entry .place + 1) w) ⌝ }
 {
-    if is(token, wanted) { step(text, token) } else { Err(unexpected(token)) }
+    if is(token, wanted) {
+        step(text, token)
+    } else {
+        Err(unexpected(token))
+    }
 }
 
 // Writes the item at the count, if there is a place.
@@ -84,5 +99,10 @@ pub(crate) fn above(kind: u8, left: u16, right: u16) -> Node
     requires { ⌜ (1 ≤ left) × (1 ≤ right) ⌝ }
     ensures { λ r. ⌜ r ≡ node kind (left - 1) (right - 1) 0 ⌝ }
 {
-    Node { kind, a: left - 1, b: right - 1, c: 0 }
+    Node {
+        kind,
+        a: left - 1,
+        b: right - 1,
+        c: 0,
+    }
 }

@@ -25,13 +25,13 @@ cond-or true x z = refl
 cond-or false x z = refl
 
 found-at : {T : Type 0} (ls w : List ℕ) (es : List (Entry T)) (i : ℕ) (e : Entry T) → i < length es → e ≡ getD es i e →
-  found ls w (drop i es) ≡ or-else (matched ls w e) (found ls w (drop (i + 1) es))
+    found ls w (drop i es) ≡ or-else (matched ls w e) (found ls w (drop (i + 1) es))
 found-at ls w es i e h is =
     ap (found ls w) (drop-cons es i e h) ∙ (rw (add-one, ← is) refl ∙ cond-or (spells ls w (e .place) (e .size)) (e .value) (found ls w (drop (i + 1) es)))
 
 -- after entry i the hit is `next`
 pub found-more : {T : Type 0} (ls w : List ℕ) (es : List (Entry T)) (hit next : Option T) (i : ℕ) (e : Entry T) → i < length es → e ≡ getD es i e →
-  next ≡ or-else hit (matched ls w e) → or-else hit (found ls w (drop i es)) ≡ or-else next (found ls w (drop (i + 1) es))
+    next ≡ or-else hit (matched ls w e) → or-else hit (found ls w (drop i es)) ≡ or-else next (found ls w (drop (i + 1) es))
 found-more ls w es hit next i e h is n =
     ap (or-else hit) (found-at ls w es i e h is) ∙ (or-assoc hit (matched ls w e) (found ls w (drop (i + 1) es)) ∙ ap (λ x. or-else x (found ls w (drop (i + 1) es))) (sym n))
 

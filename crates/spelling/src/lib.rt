@@ -27,7 +27,11 @@ fn seen<T: Copy>(earlier: Option<T>, letters: &[u8], e: &Entry<T>, spelling: &[u
     if earlier.is_some() {
         return earlier;
     }
-    if part_is(letters, e.place, e.size, spelling) { Some(e.value) } else { None }
+    if part_is(letters, e.place, e.size, spelling) {
+        Some(e.value)
+    } else {
+        None
+    }
 }
 
 // What the first entry with this spelling stands for. An entry outside the letters matches nothing.

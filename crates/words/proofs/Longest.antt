@@ -63,8 +63,8 @@ module _ (t : List ℕ) (p : ℕ) (v : List ℕ) where
       let m = length-append w (34 ∷ []) in
       reach-at 34 ((w ++ (34 ∷ [])) ++ v) n e
       (cond-both (ltb q (length t)) _ _ P
-          (λ _. cond-both (eqb (getD t q 0) 34) _ _ P (λ _. cond-both (ltb 80 (q - (p + 1))) _ _ P (λ _. tt) (λ _. omega arith)) (λ _. tt))
-          (λ _. tt))
+      (λ _. cond-both (eqb (getD t q 0) 34) _ _ P (λ _. cond-both (ltb 80 (q - (p + 1))) _ _ P (λ _. tt) (λ _. omega arith)) (λ _. tt))
+      (λ _. tt))
 
   becomes-reach : drop p t ≡ (58 ∷ 61 ∷ []) ++ v → made (word-at t p) (Reaches 2 p)
   becomes-reach e =

@@ -34,16 +34,17 @@ module _ (t : List ℕ) (p : ℕ) (s : Spelt) (h : p ≤ length t) (e : after t 
   taken m =
       let q = runs-to layout t p in
       elim (cases-lt q (length t)) [
-        inl l ↦ (let r : Right t q s = subst (λ x. made x (Right t q)) here (word-right t q l) in
-          record {
-            from = omega arith;
-            on = omega arith;
-            within = r .3;
-            skips = subst (λ n. every layout (cut t p n) ≡ true) (sym (r .0)) (run-every layout t p);
-            spells = subst (λ n. Spells (cut t n (s .next)) (s .lex)) (sym (r .0)) (r .4);
-            longest = λ u v x d w. let g : Reaches (length u) q s = subst (λ x. made x (Reaches (length u) q)) here (reach t q v w (ap (λ n. drop n t) (sym (r .0)) ∙ d)) in omega arith
-          })
-      | inr l ↦ absurd (let x : moves (s .lex) ≡ 0 = ap moved (sym here ∙ word-none t q l) in omega arith) ]
+        | inl l ↦ (let r : Right t q s = subst (λ x. made x (Right t q)) here (word-right t q l) in
+            record {
+              from = omega arith;
+              on = omega arith;
+              within = r .3;
+              skips = subst (λ n. every layout (cut t p n) ≡ true) (sym (r .0)) (run-every layout t p);
+              spells = subst (λ n. Spells (cut t n (s .next)) (s .lex)) (sym (r .0)) (r .4);
+              longest = λ u v x d w. let g : Reaches (length u) q s = subst (λ x. made x (Reaches (length u) q)) here (reach t q v w (ap (λ n. drop n t) (sym (r .0)) ∙ d)) in omega arith;
+            })
+        | inr l ↦ absurd (let x : moves (s .lex) ≡ 0 = ap moved (sym here ∙ word-none t q l) in omega arith)
+      ]
 
 pub longest : Longest
 longest t p s h e m = taken t p s h e m
@@ -75,11 +76,12 @@ rest-is-layout : (t : List ℕ) (p q r : ℕ) → p ≤ length t → after t p �
 rest-is-layout t p q r h e =
     let n = runs-to layout t p in
     elim (cases-lt n (length t)) [
-      inl l ↦ absurd (let x : Right t n (record { lex = end; place = q; next = r }) = subst (λ x. made x (Right t n)) (here t p _ h e) (word-right t n l) in omega (arith, x .1))
-    | inr l ↦ (let b = run-le layout t p h in
-        let m : n ≡ length t = omega arith in
-        let d : drop p t ≡ cut t p n = cut-drop t p n (omega arith) ∙ (ap (λ xs. cut t p n ++ xs) (drop-all n t l) ∙ append-nil (cut t p n)) in
-        subst (λ xs. every layout xs ≡ true) (sym d) (run-every layout t p)) ]
+      | inl l ↦ absurd (let x : Right t n (record { lex = end; place = q; next = r }) = subst (λ x. made x (Right t n)) (here t p _ h e) (word-right t n l) in omega (arith, x .1))
+      | inr l ↦ (let b = run-le layout t p h in
+          let m : n ≡ length t = omega arith in
+          let d : drop p t ≡ cut t p n = cut-drop t p n (omega arith) ∙ (ap (λ xs. cut t p n ++ xs) (drop-all n t l) ∙ append-nil (cut t p n)) in
+          subst (λ xs. every layout xs ≡ true) (sym d) (run-every layout t p))
+    ]
 
 makes-up-from : (t : List ℕ) (p : ℕ) (ws : List Lex) (z : Last) → z ≡ stop → p ≤ length t → Reading t p ws z → Made-of (drop p t) ws
 makes-up-from t p ws z y h (finished {q = q} {r = r} e) = gap (drop p t) (rest-is-layout t p q r h e)
@@ -110,8 +112,8 @@ ends-by t p h f (Err x) e = ([], bad x, omega arith, refused e)
 ends-by t p h f (Ok s) e =
     ⊎-elim
     (λ m. let k = taken t p s h e m in
-        let r = f (s .next) (omega (arith, k .from, k .on)) (k .within) in
-        (s .lex ∷ r .0, r .1, omega (arith, k .from, k .on, k .within, r .2), then e m (r .3)))
+    let r = f (s .next) (omega (arith, k .from, k .on)) (k .within) in
+    (s .lex ∷ r .0, r .1, omega (arith, k .from, k .on, k .within, r .2), then e m (r .3)))
     (λ x. ([], stop, omega arith, finished {q = s .place} {r = s .next} (e ∙ ap (λ y. Ok (record { lex = y; place = s .place; next = s .next })) x)))
     (word-or-end (s .lex))
 

@@ -74,7 +74,7 @@ module _ (t : List ℕ) (p : ℕ) (h : p < length t) where
       (refl, named-moves w (keyword w), omega arith, run-le alnum t p (omega arith), named-spelled w (keyword w) refl (ap begins c ∙ e) (run-every alnum t p))
 
   numbered-right : (q : ℕ) (d : ℕ) (ds : List ℕ) (o : Option ℕ) → cut t p q ≡ d ∷ ds → every digit (cut t p q) ≡ true → limited (value 0 (cut t p q)) ≡ o → p + 1 ≤ q → q ≤ length t →
-    made (numbered (cut t p q) p q o) (Right t p)
+      made (numbered (cut t p q) p q o) (Right t p)
   numbered-right q d ds (Some v) c a e s l =
       (refl, refl, omega arith, l, subst (λ n. Spells (cut t p q) (number (cut t p q) n)) (sym (limited-some (value 0 (cut t p q)) v (sym e) .0)) (subst (λ u. Spells u (number u (value 0 u))) (sym c) (a-number d ds (subst (λ u. every digit u ≡ true) c a))))
   numbered-right q d ds None c a e s l = tt
@@ -91,8 +91,8 @@ module _ (t : List ℕ) (p : ℕ) (h : p < length t) where
       let q = runs-to allowed t (p + 1) in
       cond-both (ltb q (length t)) _ _ P
       (λ i. cond-both (eqb (getD t q 0) 34) _ _ P
-          (λ c. cond-both (ltb 80 (q - (p + 1))) _ _ P (λ _. tt) (λ _. (refl, refl, omega arith, omega (arith, ltb-true q (length t) i), spelled (ltb-true q (length t) i) (eqb-true (getD t q 0) 34 c))))
-          (λ _. tt))
+      (λ c. cond-both (ltb 80 (q - (p + 1))) _ _ P (λ _. tt) (λ _. (refl, refl, omega arith, omega (arith, ltb-true q (length t) i), spelled (ltb-true q (length t) i) (eqb-true (getD t q 0) 34 c))))
+      (λ _. tt))
       (λ _. tt)
     where
       spelled : runs-to allowed t (p + 1) < length t → getD t (runs-to allowed t (p + 1)) 0 ≡ 34 → Spells (cut t p (runs-to allowed t (p + 1) + 1)) (text (cut t (p + 1) (runs-to allowed t (p + 1))))
@@ -129,10 +129,10 @@ module _ (t : List ℕ) (p : ℕ) (h : p < length t) where
       (λ _. cond-both (eqb b 59) _ _ P (mark-right F.Semicolon 59 refl)
       (λ _. cond-both (eqb b 44) _ _ P (mark-right F.Comma 44 refl)
       (λ _. cond-both (eqb b 124) _ _ P
-          (λ e. cond-both (eqb (getD t (p + 1) 0) 124) _ _ P (λ f. pair-right F.Join 124 124 refl e (within (λ x. eqb x 124) refl t (p + 1) f) f) (λ _. tt))
+      (λ e. cond-both (eqb (getD t (p + 1) 0) 124) _ _ P (λ f. pair-right F.Join 124 124 refl e (within (λ x. eqb x 124) refl t (p + 1) f) f) (λ _. tt))
       (λ _. cond-both (eqb b 58) _ _ P
-          (λ e. cond-both (eqb (getD t (p + 1) 0) 61) _ _ P (λ f. pair-right F.Becomes 58 61 refl e (within (λ x. eqb x 61) refl t (p + 1) f) f) (λ _. mark-right F.Colon 58 refl e))
-          (λ _. tt)))))))))))
+      (λ e. cond-both (eqb (getD t (p + 1) 0) 61) _ _ P (λ f. pair-right F.Becomes 58 61 refl e (within (λ x. eqb x 61) refl t (p + 1) f) f) (λ _. mark-right F.Colon 58 refl e))
+      (λ _. tt)))))))))))
 
 pub word-right : (t : List ℕ) (p : ℕ) → p < length t → made (word-at t p) (Right t p)
 word-right t p h = subst (λ r. made r (Right t p)) (sym (cond-true (ltb p (length t)) _ _ (lt-ltb p (length t) h))) (begun-right t p h)

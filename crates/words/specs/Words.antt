@@ -122,8 +122,8 @@ abbrev pub text-to : List ℕ → ℕ → ℕ → Scanned
 text-to t p q =
     cond (ltb q (length t))
     (cond (eqb (getD t q 0) 34)
-      (cond (ltb longest (q - (p + 1))) (fault R.LongText p) (hit (text (cut t (p + 1) q)) p (q + 1)))
-      (fault R.NotAllowed q))
+    (cond (ltb longest (q - (p + 1))) (fault R.LongText p) (hit (text (cut t (p + 1) q)) p (q + 1)))
+    (fault R.NotAllowed q))
     (fault R.Unclosed p)
 
 abbrev pub text-at : List ℕ → ℕ → Scanned

@@ -8,7 +8,6 @@ ghost use Rattle.std.specs.Vec.{made};
 ghost use Rattle.std.specs.declared.result.Result.the-variants.{Ok};
 ghost use Rattle.words.specs.Bytes.{alnum, digit};
 ghost use Rattle.words.specs.Words.{told, meant, moves, Stands, keyword, named as named-as, largest, value, limited, name-at, number-at, text-at, word-at, after};
-
 use crate::byte::Class;
 use crate::byte::run_end;
 use crate::name::keyword_of;
@@ -30,8 +29,16 @@ fn named<'a>(spelling: &'a [u8], place: usize, next: usize) -> Token<'a>
     ensures at { λ r. ⌜ (r .place ≡ place) × (r .next ≡ next) × (moves (meant (r .word)) ≡ 1) ⌝ }
 {
     match keyword_of(spelling) {
-        Some(fixed) => Token { word: Word::Fixed(fixed), place, next },
-        None => Token { word: Word::Name(spelling), place, next },
+        Some(fixed) => Token {
+            word: Word::Fixed(fixed),
+            place,
+            next,
+        },
+        None => Token {
+            word: Word::Name(spelling),
+            place,
+            next,
+        },
     }
 }
 
@@ -75,8 +82,15 @@ fn number_at<'a>(text: &'a [u8], at: usize) -> Result<Token<'a>, Fault>
     let next = run_end(text, Class::Digit, at);
     let digits = &text[at..next];
     match value_of(digits) {
-        Some(value) => Ok(Token { word: Word::Number(digits, value), place: at, next }),
-        None => Err(Fault { refusal: Refusal::LargeNumber, place: at }),
+        Some(value) => Ok(Token {
+            word: Word::Number(digits, value),
+            place: at,
+            next,
+        }),
+        None => Err(Fault {
+            refusal: Refusal::LargeNumber,
+            place: at,
+        }),
     }
 }
 
@@ -88,21 +102,38 @@ fn text_at<'a>(text: &'a [u8], at: usize) -> Result<Token<'a>, Fault>
 {
     let end = run_end(text, Class::Allowed, at + 1);
     if end >= text.len() {
-        return Err(Fault { refusal: Refusal::Unclosed, place: at });
+        return Err(Fault {
+            refusal: Refusal::Unclosed,
+            place: at,
+        });
     }
     if text[end] as char != '"' {
-        return Err(Fault { refusal: Refusal::NotAllowed, place: end });
+        return Err(Fault {
+            refusal: Refusal::NotAllowed,
+            place: end,
+        });
     }
     if end - (at + 1) > LONGEST {
-        return Err(Fault { refusal: Refusal::LongText, place: at });
+        return Err(Fault {
+            refusal: Refusal::LongText,
+            place: at,
+        });
     }
-    Ok(Token { word: Word::Text(&text[at + 1..end]), place: at, next: end + 1 })
+    Ok(Token {
+        word: Word::Text(&text[at + 1..end]),
+        place: at,
+        next: end + 1,
+    })
 }
 
 fn mark<'a>(fixed: Fixed, at: usize, next: usize) -> Result<Token<'a>, Fault>
     ensures { λ r. ⌜ r ≡ Ok (record { word = Word.Fixed fixed; place = at; next = next }) ⌝ }
 {
-    Ok(Token { word: Word::Fixed(fixed), place: at, next })
+    Ok(Token {
+        word: Word::Fixed(fixed),
+        place: at,
+        next,
+    })
 }
 
 // Whether the byte `b`, not 0, stands after `at`.
@@ -121,7 +152,11 @@ fn word_at<'a>(text: &'a [u8], at: usize) -> Result<Token<'a>, Fault>
     ensures on { λ r. ⌜ made r (Stands (now (text .entry)) at) ⌝ }
 {
     if at >= text.len() {
-        return Ok(Token { word: Word::End, place: at, next: at });
+        return Ok(Token {
+            word: Word::End,
+            place: at,
+            next: at,
+        });
     }
     match text[at] as char {
         'a'..='z' | 'A'..='Z' => Ok(name_at(text, at)),
@@ -137,7 +172,10 @@ fn word_at<'a>(text: &'a [u8], at: usize) -> Result<Token<'a>, Fault>
             if next_is(text, at, b'|') {
                 mark(Fixed::Join, at, at + 2)
             } else {
-                Err(Fault { refusal: Refusal::NoWord, place: at })
+                Err(Fault {
+                    refusal: Refusal::NoWord,
+                    place: at,
+                })
             }
         }
         ':' => {
@@ -147,7 +185,10 @@ fn word_at<'a>(text: &'a [u8], at: usize) -> Result<Token<'a>, Fault>
                 mark(Fixed::Colon, at, at + 1)
             }
         }
-        _ => Err(Fault { refusal: Refusal::NoWord, place: at }),
+        _ => Err(Fault {
+            refusal: Refusal::NoWord,
+            place: at,
+        }),
     }
 }
 

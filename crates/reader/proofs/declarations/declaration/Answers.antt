@@ -40,10 +40,10 @@ returns-in-Continue-typed c =
     record {
       on = search needs;
       is = record {
-          part = (part (c .args .token .place) (c .args .token .next));
-          sort = typed .sort;
-          nodes = c .put .ensures ∙ ap (λ k. write (c .args .out .now) (c .args .count) (record { kind = 1; a = w .place; b = w .next - w .place; c = k } ∷ [])) (typed .kind);
-          names = c .put-in-Name .ensures ∙ ap (λ k. write (c .args .table .now) (c .args .count) (record { place = w .place; size = w .next - w .place; value = record { kind = k; number = c .args .count } } ∷ [])) (typed .kind);
-          goes-on = λ g. (subst (λ (k : Lex). at t (M.naming g) (seen-as k (w .place) (w .next)) ≡ at t (M.typing g (part (c .args .token .place) (c .args .token .next))) (found t (w .next))) (sym (ap meant (c .in-Name .is))) (name-word t g (part (c .args .token .place) (c .args .token .next)) (w .next)) ∙ ap (at t (M.typing g (part (c .args .token .place) (c .args .token .next)))) (sym (c .in-Continue-colon .ensures tt .is))) ∙ ((pass t (colon-word g (part (c .args .token .place) (c .args .token .next))) (token (c .in-Continue-colon .colon)) ∙ ap (at t (M.sorting g (part (c .args .token .place) (c .args .token .next)))) (sym (c .in-Continue-start .ensures tt .is))) ∙ typed .goes-on g (part (c .args .token .place) (c .args .token .next)));
-        };
+        part = (part (c .args .token .place) (c .args .token .next));
+        sort = typed .sort;
+        nodes = c .put .ensures ∙ ap (λ k. write (c .args .out .now) (c .args .count) (record { kind = 1; a = w .place; b = w .next - w .place; c = k } ∷ [])) (typed .kind);
+        names = c .put-in-Name .ensures ∙ ap (λ k. write (c .args .table .now) (c .args .count) (record { place = w .place; size = w .next - w .place; value = record { kind = k; number = c .args .count } } ∷ [])) (typed .kind);
+        goes-on = λ g. (subst (λ (k : Lex). at t (M.naming g) (seen-as k (w .place) (w .next)) ≡ at t (M.typing g (part (c .args .token .place) (c .args .token .next))) (found t (w .next))) (sym (ap meant (c .in-Name .is))) (name-word t g (part (c .args .token .place) (c .args .token .next)) (w .next)) ∙ ap (at t (M.typing g (part (c .args .token .place) (c .args .token .next)))) (sym (c .in-Continue-colon .ensures tt .is))) ∙ ((pass t (colon-word g (part (c .args .token .place) (c .args .token .next))) (token (c .in-Continue-colon .colon)) ∙ ap (at t (M.sorting g (part (c .args .token .place) (c .args .token .next)))) (sym (c .in-Continue-start .ensures tt .is))) ∙ typed .goes-on g (part (c .args .token .place) (c .args .token .next)));
+      };
     }

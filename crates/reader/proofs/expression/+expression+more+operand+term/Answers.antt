@@ -67,12 +67,12 @@ more-returns-in-Continue-right r c =
           let a : c .args .left .count - 1 ≡ n + size e - 1 = omega arith in
           let b : c .in-Continue-right .right .count - 1 ≡ n + size e + size (right .tree) - 1 = omega (arith, right .count) in
           let nodes : c .put .last .out ≡ write xs n (lay f n whole) =
-              c .put .ensures ∙ ap (λ (b : Node). write (c .operand .last .out) (c .in-Continue-right .right .count) (b ∷ [])) (c .above .ensures)
-              ∙ (ap (λ ys. write ys (c .in-Continue-right .right .count) (last ∷ [])) (right .nodes ∙ ap (λ ys. write ys (c .args .left .count) (lay f (c .args .left .count) (right .tree))) k)
-              ∙ (write-two f xs n e (right .tree) last (c .args .left .count) (c .in-Continue-right .right .count) i (right .count)
-              ∙ (ap (λ m. write xs n (lay f n e ++ (lay f (n + size e) (right .tree) ++ (node (c .in-Some .kind) m (c .in-Continue-right .right .count - 1) 0 ∷ [])))) a
-              ∙ (ap (λ m. write xs n (lay f n e ++ (lay f (n + size e) (right .tree) ++ (node (c .in-Some .kind) (n + size e - 1) m 0 ∷ [])))) b
-              ∙ ap (write xs n) (sym (j .laid f n e (right .tree))))))) in
+          c .put .ensures ∙ ap (λ (b : Node). write (c .operand .last .out) (c .in-Continue-right .right .count) (b ∷ [])) (c .above .ensures)
+          ∙ (ap (λ ys. write ys (c .in-Continue-right .right .count) (last ∷ [])) (right .nodes ∙ ap (λ ys. write ys (c .args .left .count) (lay f (c .args .left .count) (right .tree))) k)
+          ∙ (write-two f xs n e (right .tree) last (c .args .left .count) (c .in-Continue-right .right .count) i (right .count)
+          ∙ (ap (λ m. write xs n (lay f n e ++ (lay f (n + size e) (right .tree) ++ (node (c .in-Some .kind) m (c .in-Continue-right .right .count - 1) 0 ∷ [])))) a
+          ∙ (ap (λ m. write xs n (lay f n e ++ (lay f (n + size e) (right .tree) ++ (node (c .in-Some .kind) (n + size e - 1) m 0 ∷ [])))) b
+          ∙ ap (write xs n) (sym (j .laid f n e (right .tree))))))) in
           ends-by _ _ (λ g. tail g whole) leaving t (token w) (token (c .in-Continue-right .right .token)) f n xs _ (c .more .result)
           (c .more .ensures .is whole n xs count nodes) (λ g. g)
           (λ g. j .goes-on e g ∙ (ap (at t (term (j .before e) g)) (behind-joint t (meant (w .word)) (w .place) (w .next) (c .in-Some .kind) (c .in-Some .ensures tt) ∙ sym (c .in-Continue-start .ensures tt .is)) ∙ right .goes-on (j .before e, g)))
@@ -100,11 +100,11 @@ term-returns-in-Continue-next r c =
     record {
       on = search needs;
       is = record {
-          tree = l .tree;
-          count = omega (arith, l .one);
-          nodes = c .put .ensures ∙ ap (write (c .args .out .now) (c .args .count)) (sym (l .laid (c .args .count)));
-          goes-on = λ k. l .goes-on (k .0) (k .1) ∙ ap (at t (tail (k .1) (with (k .0) (l .tree)))) (behind-leaf t f (meant (w .word)) (w .place) (w .next) (c .in-Some .node) (c .in-Some .ensures tt) ∙ sym (c .in-Continue-next .ensures tt .is));
-        };
+        tree = l .tree;
+        count = omega (arith, l .one);
+        nodes = c .put .ensures ∙ ap (write (c .args .out .now) (c .args .count)) (sym (l .laid (c .args .count)));
+        goes-on = λ k. l .goes-on (k .0) (k .1) ∙ ap (at t (tail (k .1) (with (k .0) (l .tree)))) (behind-leaf t f (meant (w .word)) (w .place) (w .next) (c .in-Some .node) (c .in-Some .ensures tt) ∙ sym (c .in-Continue-next .ensures tt .is));
+      };
     }
 
 pub term-returns-in-Break-start : need.term-returns-in-Break-start
@@ -147,10 +147,10 @@ term-returns-in-Continue-next-2 r c =
     record {
       on = search needs;
       is = record {
-          tree = inner .tree;
-          count = inner .count;
-          nodes = inner .nodes;
-          goes-on = λ k. group-reads t f (token (c .args .token)) (c .in-None .ensures tt) (k .0) (k .1) ∙ (ap (at t (term start (group (k .0) (k .1)))) (sym (c .in-Continue-start .ensures tt .is)) ∙ (inner .goes-on (group (k .0) (k .1))
+        tree = inner .tree;
+        count = inner .count;
+        nodes = inner .nodes;
+        goes-on = λ k. group-reads t f (token (c .args .token)) (c .in-None .ensures tt) (k .0) (k .1) ∙ (ap (at t (term start (group (k .0) (k .1)))) (sym (c .in-Continue-start .ensures tt .is)) ∙ (inner .goes-on (group (k .0) (k .1))
             ∙ (pass t (close-word (k .0) (k .1) (inner .tree)) (token (c .in-Continue-inner .inner .token)) ∙ ap (at t (tail (k .1) (with (k .0) (inner .tree)))) (sym (c .in-Continue-next-2 .ensures tt .is)))));
-        };
+      };
     }

@@ -134,24 +134,24 @@ choice-returns r c =
     record {
       on = search needs;
       is = record {
-          tree = choose (test .tree) (first .tree) (second .tree);
-          count = omega (arith, test .count, first .count, second .count);
-          nodes = laid-choice f (c .args .out .now) (c .put .last .out) (c .args .count) (test .tree) (first .tree) (second .tree) (c .in-Continue-test .test .count) (c .in-Continue-first .first .count) (c .in-Continue-second .second .count) (test .count) (first .count) (second .count)
-              (c .put .ensures ∙ ap (λ (ys : List Node). write ys (c .in-Continue-second .second .count) (node 8 (c .in-Continue-test .test .count - 1) (c .in-Continue-first .first .count - 1) (c .in-Continue-second .second .count - 1) ∷ []))
-                (second .nodes ∙ ap (λ (ys : List Node). write ys (c .in-Continue-first .first .count) (lay f (c .in-Continue-first .first .count) (second .tree)))
-                  (first .nodes ∙ ap (λ (ys : List Node). write ys (c .in-Continue-test .test .count) (lay f (c .in-Continue-test .test .count) (first .tree))) (test .nodes))));
-          goes-on = λ o. if-reads t (token (c .args .token)) (c .pre .2) o
-          ∙ (ap (at t (M.term M.start (M.test o))) (sym (c .in-Continue-start .ensures tt .is))
-          ∙ (test .goes-on (M.test o)
-          ∙ (pass t (then-word o (test .tree)) (token (c .in-Continue-test .test .token))
-          ∙ (ap (at t (M.series (M.taken (test .tree) o))) (sym (c .in-Continue-then .ensures tt .is))
-          ∙ (first .goes-on (M.taken (test .tree) o)
-          ∙ (pass t (else-word o (test .tree) (first .tree)) (token (c .in-Continue-first .first .token))
-          ∙ (ap (at t (M.series (M.left (test .tree) (first .tree) o))) (sym (c .in-Continue-other .ensures tt .is))
-          ∙ (second .goes-on (M.left (test .tree) (first .tree) o)
-          ∙ (pass t (fi-word o (test .tree) (first .tree) (second .tree)) (token (c .in-Continue-second .second .token))
-          ∙ (ap (at t (M.done o (choose (test .tree) (first .tree) (second .tree)))) (sym (c .in-Continue-next .ensures tt .is))))))))))));
-        };
+        tree = choose (test .tree) (first .tree) (second .tree);
+        count = omega (arith, test .count, first .count, second .count);
+        nodes = laid-choice f (c .args .out .now) (c .put .last .out) (c .args .count) (test .tree) (first .tree) (second .tree) (c .in-Continue-test .test .count) (c .in-Continue-first .first .count) (c .in-Continue-second .second .count) (test .count) (first .count) (second .count)
+            (c .put .ensures ∙ ap (λ (ys : List Node). write ys (c .in-Continue-second .second .count) (node 8 (c .in-Continue-test .test .count - 1) (c .in-Continue-first .first .count - 1) (c .in-Continue-second .second .count - 1) ∷ []))
+            (second .nodes ∙ ap (λ (ys : List Node). write ys (c .in-Continue-first .first .count) (lay f (c .in-Continue-first .first .count) (second .tree)))
+            (first .nodes ∙ ap (λ (ys : List Node). write ys (c .in-Continue-test .test .count) (lay f (c .in-Continue-test .test .count) (first .tree))) (test .nodes))));
+        goes-on = λ o. if-reads t (token (c .args .token)) (c .pre .2) o
+            ∙ (ap (at t (M.term M.start (M.test o))) (sym (c .in-Continue-start .ensures tt .is))
+            ∙ (test .goes-on (M.test o)
+            ∙ (pass t (then-word o (test .tree)) (token (c .in-Continue-test .test .token))
+            ∙ (ap (at t (M.series (M.taken (test .tree) o))) (sym (c .in-Continue-then .ensures tt .is))
+            ∙ (first .goes-on (M.taken (test .tree) o)
+            ∙ (pass t (else-word o (test .tree) (first .tree)) (token (c .in-Continue-first .first .token))
+            ∙ (ap (at t (M.series (M.left (test .tree) (first .tree) o))) (sym (c .in-Continue-other .ensures tt .is))
+            ∙ (second .goes-on (M.left (test .tree) (first .tree) o)
+            ∙ (pass t (fi-word o (test .tree) (first .tree) (second .tree)) (token (c .in-Continue-second .second .token))
+            ∙ (ap (at t (M.done o (choose (test .tree) (first .tree) (second .tree)))) (sym (c .in-Continue-next .ensures tt .is))))))))))));
+      };
     }
 
 pub repeat-returns-in-Break-start : need.repeat-returns-in-Break-start
@@ -231,20 +231,20 @@ repeat-returns r c =
     record {
       on = search needs;
       is = record {
-          tree = loop (test .tree) (body .tree);
-          count = omega (arith, test .count, body .count);
-          nodes = laid-two f (c .args .out .now) (c .put .last .out) (c .args .count) (test .tree) (body .tree) 9 (c .in-Continue-test .test .count) (c .in-Continue-body .body .count) (test .count) (body .count)
-              ((c .put .ensures ∙ ap (λ (b : Node). write (c .series .last .out) (c .in-Continue-body .body .count) (b ∷ [])) (c .above .ensures)) ∙ ap (λ (ys : List Node). write ys (c .in-Continue-body .body .count) (node 9 (c .in-Continue-test .test .count - 1) (c .in-Continue-body .body .count - 1) 0 ∷ []))
-                (body .nodes ∙ ap (λ (ys : List Node). write ys (c .in-Continue-test .test .count) (lay f (c .in-Continue-test .test .count) (body .tree))) (test .nodes)));
-          goes-on = λ o. while-reads t (token (c .args .token)) (c .pre .2) o
-          ∙ (ap (at t (M.term M.start (M.guard o))) (sym (c .in-Continue-start .ensures tt .is))
-          ∙ (test .goes-on (M.guard o)
-          ∙ (pass t (do-word o (test .tree)) (token (c .in-Continue-test .test .token))
-          ∙ (ap (at t (M.series (M.body (test .tree) o))) (sym (c .in-Continue-begin .ensures tt .is))
-          ∙ (body .goes-on (M.body (test .tree) o)
-          ∙ (pass t (od-word o (test .tree) (body .tree)) (token (c .in-Continue-body .body .token))
-          ∙ (ap (at t (M.done o (loop (test .tree) (body .tree)))) (sym (c .in-Continue-next .ensures tt .is)))))))));
-        };
+        tree = loop (test .tree) (body .tree);
+        count = omega (arith, test .count, body .count);
+        nodes = laid-two f (c .args .out .now) (c .put .last .out) (c .args .count) (test .tree) (body .tree) 9 (c .in-Continue-test .test .count) (c .in-Continue-body .body .count) (test .count) (body .count)
+            ((c .put .ensures ∙ ap (λ (b : Node). write (c .series .last .out) (c .in-Continue-body .body .count) (b ∷ [])) (c .above .ensures)) ∙ ap (λ (ys : List Node). write ys (c .in-Continue-body .body .count) (node 9 (c .in-Continue-test .test .count - 1) (c .in-Continue-body .body .count - 1) 0 ∷ []))
+            (body .nodes ∙ ap (λ (ys : List Node). write ys (c .in-Continue-test .test .count) (lay f (c .in-Continue-test .test .count) (body .tree))) (test .nodes)));
+        goes-on = λ o. while-reads t (token (c .args .token)) (c .pre .2) o
+            ∙ (ap (at t (M.term M.start (M.guard o))) (sym (c .in-Continue-start .ensures tt .is))
+            ∙ (test .goes-on (M.guard o)
+            ∙ (pass t (do-word o (test .tree)) (token (c .in-Continue-test .test .token))
+            ∙ (ap (at t (M.series (M.body (test .tree) o))) (sym (c .in-Continue-begin .ensures tt .is))
+            ∙ (body .goes-on (M.body (test .tree) o)
+            ∙ (pass t (od-word o (test .tree) (body .tree)) (token (c .in-Continue-body .body .token))
+            ∙ (ap (at t (M.done o (loop (test .tree) (body .tree)))) (sym (c .in-Continue-next .ensures tt .is)))))))));
+      };
     }
 
 pub rest-returns-in-Break-next : need.rest-returns-in-Break-next
@@ -302,11 +302,11 @@ series-returns-in-Continue-others r c =
     record {
       on = search needs;
       is = record {
-          tree = more (first .tree) (others .tree);
-          count = omega (arith, first .count, others .count);
-          nodes = laid-two f (c .args .out .now) (c .put-in-rest .last .out) (c .args .count) (first .tree) (others .tree) 10 (c .in-Continue-first .first .count) (c .in-Continue-others .others .count) (first .count) (others .count)
-              ((c .put-in-rest .ensures ∙ ap (λ (b : Node). write (c .rest .last .out) (c .in-Continue-others .others .count) (b ∷ [])) (c .above .ensures)) ∙ ap (λ (ys : List Node). write ys (c .in-Continue-others .others .count) (node 10 (c .in-Continue-first .first .count - 1) (c .in-Continue-others .others .count - 1) 0 ∷ []))
-                (others .nodes ∙ ap (λ (ys : List Node). write ys (c .in-Continue-first .first .count) (lay f (c .in-Continue-first .first .count) (others .tree))) (first .nodes)));
-          goes-on = λ o. first .goes-on o ∙ others .goes-on o;
-        };
+        tree = more (first .tree) (others .tree);
+        count = omega (arith, first .count, others .count);
+        nodes = laid-two f (c .args .out .now) (c .put-in-rest .last .out) (c .args .count) (first .tree) (others .tree) 10 (c .in-Continue-first .first .count) (c .in-Continue-others .others .count) (first .count) (others .count)
+            ((c .put-in-rest .ensures ∙ ap (λ (b : Node). write (c .rest .last .out) (c .in-Continue-others .others .count) (b ∷ [])) (c .above .ensures)) ∙ ap (λ (ys : List Node). write ys (c .in-Continue-others .others .count) (node 10 (c .in-Continue-first .first .count - 1) (c .in-Continue-others .others .count - 1) 0 ∷ []))
+            (others .nodes ∙ ap (λ (ys : List Node). write ys (c .in-Continue-first .first .count) (lay f (c .in-Continue-first .first .count) (others .tree))) (first .nodes)));
+        goes-on = λ o. first .goes-on o ∙ others .goes-on o;
+      };
     }

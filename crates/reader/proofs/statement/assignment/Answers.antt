@@ -59,16 +59,16 @@ returns c =
     record {
       on = search needs;
       is = record {
-          tree = assign n (value .tree);
-          count = omega (arith, value .count);
-          nodes = laid-assign f (c .args .out .now) (c .put-2 .last .out) (c .args .count) n (value .tree) (c .in-Continue-value .value .count) (value .count)
-              (c .put-2 .ensures ∙ ap (λ (ys : List Node). write ys (c .in-Continue-value .value .count) (node 7 (c .args .count) (c .in-Continue-value .value .count - 1) 0 ∷ []))
-                (value .nodes ∙ ap (λ (ys : List Node). write ys (c .args .count + 1) (lay f (c .args .count + 1) (value .tree))) (c .put .ensures ∙ ap (λ (b : Node). write (c .args .out .now) (c .args .count) (b ∷ [])) (c .variable .ensures))));
-          goes-on = λ o. name-reads t (meant (c .args .token .word)) (c .args .token .place) (c .args .token .next) (c .pre .2) o
-          ∙ (ap (at t (M.becoming (part (c .args .token .place) (c .args .token .next)) o)) (sym (c .in-Continue-becomes .ensures tt .is))
-          ∙ (pass t (becomes-word (part (c .args .token .place) (c .args .token .next)) o) (token (c .in-Continue-becomes .becomes))
-          ∙ (ap (at t (M.term M.start (M.value (part (c .args .token .place) (c .args .token .next)) o))) (sym (c .in-Continue-start .ensures tt .is))
-          ∙ (value .goes-on (M.value (part (c .args .token .place) (c .args .token .next)) o)
-          ∙ (assigned-too t n o (value .tree) (token (c .in-Continue-value .value .token)))))));
-        };
+        tree = assign n (value .tree);
+        count = omega (arith, value .count);
+        nodes = laid-assign f (c .args .out .now) (c .put-2 .last .out) (c .args .count) n (value .tree) (c .in-Continue-value .value .count) (value .count)
+            (c .put-2 .ensures ∙ ap (λ (ys : List Node). write ys (c .in-Continue-value .value .count) (node 7 (c .args .count) (c .in-Continue-value .value .count - 1) 0 ∷ []))
+            (value .nodes ∙ ap (λ (ys : List Node). write ys (c .args .count + 1) (lay f (c .args .count + 1) (value .tree))) (c .put .ensures ∙ ap (λ (b : Node). write (c .args .out .now) (c .args .count) (b ∷ [])) (c .variable .ensures))));
+        goes-on = λ o. name-reads t (meant (c .args .token .word)) (c .args .token .place) (c .args .token .next) (c .pre .2) o
+            ∙ (ap (at t (M.becoming (part (c .args .token .place) (c .args .token .next)) o)) (sym (c .in-Continue-becomes .ensures tt .is))
+            ∙ (pass t (becomes-word (part (c .args .token .place) (c .args .token .next)) o) (token (c .in-Continue-becomes .becomes))
+            ∙ (ap (at t (M.term M.start (M.value (part (c .args .token .place) (c .args .token .next)) o))) (sym (c .in-Continue-start .ensures tt .is))
+            ∙ (value .goes-on (M.value (part (c .args .token .place) (c .args .token .next)) o)
+            ∙ (assigned-too t n o (value .tree) (token (c .in-Continue-value .value .token)))))));
+      };
     }

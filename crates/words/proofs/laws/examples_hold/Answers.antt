@@ -17,5 +17,5 @@ returns c =
       too-large = refl;
       lone-bar = refl;
       not-allowed-first = refl;
-      unclosed = refl
+      unclosed = refl;
     }

@@ -8,7 +8,7 @@ use native.Mathlib.Omega.{arith}
 use lib.ListN.{length, getD, take, drop, replicate, length-take, length-append}
 use lib.Dec.{ltb, leb}
 use Rattle.std.proofs.shelf.Lists.{getD-past, take-at, append-nil}
-use Rattle.std.proofs.shelf.Tests.{cond-true, cond-false, le-leb, lt-leb, ltb-true, ltb-false, cases-lt}
+use Rattle.std.proofs.shelf.Tests.{cond-true, cond-false, lt-ltb, le-leb, lt-leb, ltb-true, ltb-false, cases-lt}
 use Rattle.std.specs.declared.result.Result.{Result}
 use Rattle.std.specs.declared.result.Result.the-variants.{Ok, Err}
 use Rattle.std.specs.declared.option.Option.{Option}
@@ -20,7 +20,7 @@ use Rattle.deck.specs.Sheets.{sheet-of}
 use Rattle.deck.specs.declared.deck.Deck.{Deck}
 use Rattle.deck.proofs.OfDeck.{sound}
 use Rattle.shelf.specs.Limits.{longest, largest}
-use Rattle.shelf.specs.Value.{Value, number, text, num-of, bytes-of}
+use Rattle.shelf.specs.Value.{Value, number, text, num-of, bytes-of, over}
 use Rattle.shelf.specs.Calls.{the-number, number-told, the-text, text-told}
 use Rattle.shelf.specs.declared.refusal.Refusal.{Refusal}
 use Rattle.shelf.specs.declared.refusal.Refusal.the-variants.{NoEntry}
@@ -32,7 +32,7 @@ use Rattle.semantics.specs.Syntax.{Expr, var, num, str, plus, conc, expression}
 use Rattle.semantics.specs.Expressions.{added, joined, value}
 use Rattle.semantics.specs.Calls.{seen-as, seen, answer}
 use Rattle.semantics.proofs.Expressions.{Fine, expression-fine, expression-is, build}
-use Rattle.player.specs.Evaluation.{Computed, numbered, sum-of, ending, Appended, Spelled, spelling}
+use Rattle.player.specs.Evaluation.{Computed, numbered, beyond, amount-of, sum-of, ends-of, ending, Appended, Spelled, spelling}
 use Rattle.nodes.specs.declared.view.View.the-variants as V
 
 -- numbers
@@ -50,6 +50,53 @@ unfolding summed
 numbered-added (Ok u) (Ok x) = within-number (ltb 4294967295 (num-of u + num-of x)) (num-of u + num-of x)
 numbered-added (Ok u) (Err c) = refl
 numbered-added (Err c) w = refl
+
+amount-summed : (r s : Result ℕ Cause) → amount-of (summed r s) ≡ sum-of (amount-of r) (amount-of s)
+unfolding summed
+amount-summed (Ok m) (Ok n) = by (ltb largest (m + n))
+  where
+    by : (b : Bool) → amount-of (cond b (Err SumTooLarge) (Ok (m + n))) ≡ cond b beyond (m + n)
+    by true = refl
+    by false = refl
+amount-summed (Ok m) (Err c) = sym (cond-true (ltb largest (m + beyond)) beyond (m + beyond) (lt-ltb largest (m + beyond) (omega arith)))
+amount-summed (Err c) s = sym (cond-true (ltb largest (beyond + amount-of s)) beyond (beyond + amount-of s) (lt-ltb largest (beyond + amount-of s) (omega arith)))
+
+-- a number within its limit, or stopped for a sum
+abbrev pub Sums : Result ℕ Cause → Type 0
+Sums (Ok n) = n ≤ largest
+Sums (Err c) = c ≡ SumTooLarge
+
+pub sums-over : (r : Result ℕ Cause) (x : ℕ) → Sums r → x ≡ amount-of r → largest < x → Err SumTooLarge ≡ r
+sums-over (Ok n) x h e l = absurd (omega arith)
+sums-over (Err c) x h e l = ap (λ y. Err y) (sym h)
+
+pub sums-within : (r : Result ℕ Cause) (x : ℕ) → Sums r → x ≡ amount-of r → x ≤ largest → Ok x ≡ r
+sums-within (Ok n) x h e l = ap (λ y. Ok y) e
+sums-within (Err c) x h e l = absurd (omega arith)
+
+small-number : (v : Value) → over v ≡ false → num-of v ≤ largest
+small-number (number n) h = ltb-false largest n h
+small-number (text t) h = omega arith
+
+sums-summed : (r s : Result ℕ Cause) → Sums r → Sums s → Sums (summed r s)
+unfolding summed
+sums-summed (Ok m) (Ok n) h k = by (ltb largest (m + n)) refl
+  where
+    by : (b : Bool) → ltb largest (m + n) ≡ b → Sums (cond b (Err SumTooLarge) (Ok (m + n)))
+    by true e = refl
+    by false e = ltb-false largest (m + n) e
+sums-summed (Ok m) (Err c) h k = k
+sums-summed (Err c) s h k = h
+
+sums-added : (v w : Result Value Cause) → Sums (numbered v) → Sums (numbered w) → Sums (numbered (added v w))
+sums-added v w h k = subst Sums (sym (numbered-added v w)) (sums-summed (numbered v) (numbered w) h k)
+
+sums-only : (ks : List ℕ) (vs : List Value) → ((n : ℕ) → over (getD vs n (number 0)) ≡ false) → (e : Expr) → Fine ks 1 e → Sums (numbered (value vs e))
+sums-only ks vs h (var i) f = small-number (getD vs i (number 0)) (h i)
+sums-only ks vs h (num n) f = f .0
+sums-only ks vs h (str t) f = let g = f .1 in absurd (omega arith)
+sums-only ks vs h (plus x y) f = sums-added (value vs x) (value vs y) (sums-only ks vs h x (f .1)) (sums-only ks vs h y (f .2))
+sums-only ks vs h (conc x y) f = let g = f .0 in absurd (omega arith)
 
 past-zero : (vs : List Value) (c : ℕ) → ltb c (length vs) ≡ false → getD vs c (number 0) ≡ number 0
 past-zero vs c e = getD-past vs c (number 0) (ltb-false c (length vs) e)
@@ -108,9 +155,12 @@ appended-join l m k at mid a b r p q =
           ∙ ap (λ x. x ++ b) (ap (λ n. take n m) (e .1) ∙ p .line (e .0)) ∙ append-assoc (take at l) a b;
     }
 
-pub spelled-room : (v : Result Value Cause) (l m : List ℕ) (at mid : ℕ) → Spelled v l m at (Some mid) → mid ≤ 80
-spelled-room (Ok u) l m at mid p = let e = ends-since at (length (bytes-of u)) mid (p .0 .says) in omega (arith, e .0, e .1)
-spelled-room (Err c) l m at mid p = let e = p .0 in let z : _≡_ {A = ℕ} 0 1 = cc in absurd (omega arith)
+-- a place in the line, and one past it
+pub in-line : (r : ℕ) → r ≤ longest → ends-of r ≡ Some r
+in-line r h = cond-true (leb r longest) (Some r) None (le-leb r longest h)
+
+pub past-line : (r : ℕ) → longest < r → ends-of r ≡ None
+past-line r h = cond-false (leb r longest) (Some r) None (lt-leb r longest h)
 
 joined-by : (b : Bool) (t : List ℕ) (l k : List ℕ) (at : ℕ) (r : Option ℕ) → ltb 80 (length t) ≡ b → Appended l k at t r → Spelled (cond b (Err TextTooLong) (Ok (text t))) l k at r
 joined-by true t l k at r e p = let h = ltb-true 80 (length t) e in (p .says ∙ too-long at (length t) (omega arith), refl)
@@ -255,26 +305,41 @@ module _ (d : Deck) (i : ℕ) (x : View) (ex : x ≡ view-at (sheet-of d .nodes)
     value-as w e = ap (value vs) (expression-is (sheet-of d) (sound d) i ∙ ap (build (sheet-of d .letters) (expression (sheet-of d))) (sym ex ∙ e))
 
     -- numbers
-    pub amount-variable : (p s n y : ℕ) → x ≡ V.Variable p s n → y ≡ num-of (getD vs n (number 0)) → Ok y ≡ numbered (value vs (expression (sheet-of d) i))
-    amount-variable p s n y e q = ap (λ z. Ok z) q ∙ sym (ap numbered (value-as (V.Variable p s n) e))
+    amount-as : (w : View) → x ≡ w → amount-of (numbered (value vs (expression (sheet-of d) i))) ≡ amount-of (numbered (value vs (build (sheet-of d .letters) (expression (sheet-of d)) w)))
+    amount-as w e = ap (λ v. amount-of (numbered v)) (value-as w e)
 
-    pub amount-number : (n : ℕ) → x ≡ V.Number n → Ok n ≡ numbered (value vs (expression (sheet-of d) i))
-    amount-number n e = sym (ap numbered (value-as (V.Number n) e))
+    pub sum-variable : (p s n y : ℕ) → x ≡ V.Variable p s n → y ≡ num-of (getD vs n (number 0)) → y ≡ amount-of (numbered (value vs (expression (sheet-of d) i)))
+    sum-variable p s n y e q = q ∙ sym (amount-as (V.Variable p s n) e)
 
-    amount-plus : (a b : ℕ) (r s : Result ℕ Cause) → x ≡ V.Plus a b → r ≡ numbered (value vs (expression (sheet-of d) a)) → s ≡ numbered (value vs (expression (sheet-of d) b)) → summed r s ≡ numbered (value vs (expression (sheet-of d) i))
-    amount-plus a b r s k e f = ap (λ y. summed y s) e ∙ ap (λ z. summed (numbered (value vs (expression (sheet-of d) a))) z) f ∙ sym (ap numbered (value-as (V.Plus a b) k) ∙ numbered-added (value vs (expression (sheet-of d) a)) (value vs (expression (sheet-of d) b)))
+    pub sum-number : (n : ℕ) → x ≡ V.Number n → n ≡ amount-of (numbered (value vs (expression (sheet-of d) i)))
+    sum-number n e = sym (amount-as (V.Number n) e)
 
-    pub plus-first : (a b : ℕ) (c : Cause) → x ≡ V.Plus a b → Err c ≡ numbered (value vs (expression (sheet-of d) a)) → Err c ≡ numbered (value vs (expression (sheet-of d) i))
-    unfolding summed
-    plus-first a b c k e = amount-plus a b (Err c) (numbered (value vs (expression (sheet-of d) b))) k e refl
+    pub sum-plus : (a b m n r : ℕ) → x ≡ V.Plus a b → m ≡ amount-of (numbered (value vs (expression (sheet-of d) a))) → n ≡ amount-of (numbered (value vs (expression (sheet-of d) b))) → r ≡ sum-of m n → r ≡ amount-of (numbered (value vs (expression (sheet-of d) i)))
+    sum-plus a b m n r k e f q =
+        q ∙ ap (λ y. sum-of y n) e ∙ ap (λ z. sum-of (amount-of (numbered (value vs (expression (sheet-of d) a)))) z) f
+        ∙ sym (amount-as (V.Plus a b) k ∙ ap amount-of (numbered-added (value vs (expression (sheet-of d) a)) (value vs (expression (sheet-of d) b))) ∙ amount-summed (numbered (value vs (expression (sheet-of d) a))) (numbered (value vs (expression (sheet-of d) b))))
 
-    pub plus-second : (a b n : ℕ) (c : Cause) → x ≡ V.Plus a b → Ok n ≡ numbered (value vs (expression (sheet-of d) a)) → Err c ≡ numbered (value vs (expression (sheet-of d) b)) → Err c ≡ numbered (value vs (expression (sheet-of d) i))
-    unfolding summed
-    plus-second a b n c k e f = amount-plus a b (Ok n) (Err c) k e f
+    -- it is a number, or stopped for a sum
+    sums-as : ((n : ℕ) → over (getD vs n (number 0)) ≡ false) → (kind-in (kinds (sheet-of d)) (view-at (sheet-of d .nodes) i) ≡ string → ⊥) → (w : View) → x ≡ w → Sums (numbered (value vs (build (sheet-of d .letters) (expression (sheet-of d)) w)))
+    sums-as h t (V.Variable p s n) e = small-number (getD vs n (number 0)) (h n)
+    sums-as h t (V.Number v) e = right-as (V.Number v) e
+    sums-as h t (V.Text p s) e = absurd (t (kind-as (V.Text p s) e))
+    sums-as h t (V.Conc a b) e = absurd (t (kind-as (V.Conc a b) e))
+    sums-as h t (V.Plus a b) e =
+        let l = plus-leads a b e in
+        sums-added (value vs (expression (sheet-of d) a)) (value vs (expression (sheet-of d) b))
+        (sums-only (kinds (sheet-of d)) vs h (expression (sheet-of d) a) (expression-fine (sheet-of d) (sound d) i a 1 (l .0) (λ z. omega arith)))
+        (sums-only (kinds (sheet-of d)) vs h (expression (sheet-of d) b) (expression-fine (sheet-of d) (sound d) i b 1 (l .1) (λ z. omega arith)))
+    sums-as h t (V.Declaration p s k) e = omega arith
+    sums-as h t (V.Assign a b) e = omega arith
+    sums-as h t (V.If a b c) e = omega arith
+    sums-as h t (V.While a b) e = omega arith
+    sums-as h t (V.Series a b) e = omega arith
+    sums-as h t V.Empty e = omega arith
+    sums-as h t V.Unknown e = omega arith
 
-    pub plus-both : (a b m n : ℕ) (r : Result ℕ Cause) → x ≡ V.Plus a b → Ok m ≡ numbered (value vs (expression (sheet-of d) a)) → Ok n ≡ numbered (value vs (expression (sheet-of d) b)) → r ≡ sum-of m n → r ≡ numbered (value vs (expression (sheet-of d) i))
-    unfolding summed
-    plus-both a b m n r k e f q = q ∙ amount-plus a b (Ok m) (Ok n) k e f
+    pub sums-at : ((n : ℕ) → over (getD vs n (number 0)) ≡ false) → (kind-in (kinds (sheet-of d)) (view-at (sheet-of d .nodes) i) ≡ string → ⊥) → Sums (numbered (value vs (expression (sheet-of d) i)))
+    sums-at h t = subst (λ v. Sums (numbered v)) (sym (value-as x refl)) (sums-as h t x refl)
 
     -- a node that is no expression
     rest-as : (w : View) → x ≡ w → ((p s n : ℕ) → x ≡ V.Variable p s n → ⊥) → ((n : ℕ) → x ≡ V.Number n → ⊥) → ((p s : ℕ) → x ≡ V.Text p s → ⊥) → ((a b : ℕ) → x ≡ V.Plus a b → ⊥) → ((a b : ℕ) → x ≡ V.Conc a b → ⊥) → value vs (build (sheet-of d .letters) (expression (sheet-of d)) w) ≡ Ok (number 0)
@@ -291,9 +356,9 @@ module _ (d : Deck) (i : ℕ) (x : View) (ex : x ≡ view-at (sheet-of d .nodes)
     rest-as V.Empty e hv hn ht hp hc = refl
     rest-as V.Unknown e hv hn ht hp hc = refl
 
-    pub amount-rest : (kind-in (kinds (sheet-of d)) (view-at (sheet-of d .nodes) i) ≡ string → ⊥) → ((p s n : ℕ) → x ≡ V.Variable p s n → ⊥) → ((n : ℕ) → x ≡ V.Number n → ⊥) → ((a b : ℕ) → x ≡ V.Plus a b → ⊥) → Ok 0 ≡ numbered (value vs (expression (sheet-of d) i))
-    amount-rest t hv hn hp =
-        sym (ap numbered (value-as x refl ∙ rest-as x refl hv hn (λ p s e. t (kind-as (V.Text p s) e)) hp (λ a b e. t (kind-as (V.Conc a b) e))))
+    pub sum-rest : (kind-in (kinds (sheet-of d)) (view-at (sheet-of d .nodes) i) ≡ string → ⊥) → ((p s n : ℕ) → x ≡ V.Variable p s n → ⊥) → ((n : ℕ) → x ≡ V.Number n → ⊥) → ((a b : ℕ) → x ≡ V.Plus a b → ⊥) → 0 ≡ amount-of (numbered (value vs (expression (sheet-of d) i)))
+    sum-rest t hv hn hp =
+        sym (ap (λ v. amount-of (numbered v)) (value-as x refl ∙ rest-as x refl hv hn (λ p s e. t (kind-as (V.Text p s) e)) hp (λ a b e. t (kind-as (V.Conc a b) e))))
 
     -- texts
     pub spell-variable : (p s c n : ℕ) (t₀ t y l m : List ℕ) (at : ℕ) (r : Option ℕ) → length (bytes-of (getD vs c (number 0))) ≤ longest → x ≡ V.Variable p s c → Ok n ≡ text-told c vs t₀ .answer → t ≡ text-told c vs t₀ .line → y ≡ take n t → Appended l m at y r → Spelled (value vs (expression (sheet-of d) i)) l m at r
@@ -302,11 +367,11 @@ module _ (d : Deck) (i : ℕ) (x : View) (ex : x ≡ view-at (sheet-of d .nodes)
         let w : y ≡ bytes-of (getD vs c (number 0)) = q ∙ ap (take n) f ∙ sym (b .1) in
         subst (λ v. Spelled v l m at r) (sym (value-as (V.Variable p s c) k)) (subst (λ z. Appended l m at z r) w a, short)
 
-    pub spell-no-entry : (p s c : ℕ) (n : Refusal) (t₀ l : List ℕ) (at : ℕ) → at ≤ longest → x ≡ V.Variable p s c → Err n ≡ text-told c vs t₀ .answer → Spelled (value vs (expression (sheet-of d) i)) l l at (Some at)
+    pub spell-no-entry : (p s c : ℕ) (n : Refusal) (t₀ l : List ℕ) (at : ℕ) → at ≤ longest → x ≡ V.Variable p s c → Err n ≡ text-told c vs t₀ .answer → Spelled (value vs (expression (sheet-of d) i)) l l at (ends-of at)
     spell-no-entry p s c n t₀ l at a k e =
         let b = told-no-text vs c n t₀ e in
         let z : length (bytes-of (getD vs c (number 0))) ≡ 0 = ap length b in
-        subst (λ v. Spelled v l l at (Some at)) (sym (value-as (V.Variable p s c) k)) (subst (λ y. Appended l l at y (Some at)) (sym b) (nothing-added l at a), omega arith)
+        subst (λ r. Spelled (value vs (expression (sheet-of d) i)) l l at r) (sym (in-line at a)) (subst (λ v. Spelled v l l at (Some at)) (sym (value-as (V.Variable p s c) k)) (subst (λ y. Appended l l at y (Some at)) (sym b) (nothing-added l at a), omega arith))
 
     pub spell-text : (p s n : ℕ) (y l m : List ℕ) (at : ℕ) (r : Option ℕ) → x ≡ V.Text p s → n ≡ s → y ≡ take n (drop p (sheet-of d .letters)) → Appended l m at y r → Spelled (value vs (expression (sheet-of d) i)) l m at r
     spell-text p s n y l m at r k q e a =
@@ -315,14 +380,17 @@ module _ (d : Deck) (i : ℕ) (x : View) (ex : x ≡ view-at (sheet-of d .nodes)
         let c : length (take s (drop p (sheet-of d .letters))) ≤ longest = (let g = length-take s (drop p (sheet-of d .letters)) in omega arith) in
         subst (λ v. Spelled v l m at r) (sym (value-as (V.Text p s) k)) (subst (λ j. Appended l m at j r) z a, c)
 
-    pub spell-conc : (a b : ℕ) (l m o : List ℕ) (at mid : ℕ) (r : Option ℕ) → x ≡ V.Conc a b → Spelled (value vs (expression (sheet-of d) a)) l m at (Some mid) → Spelled (value vs (expression (sheet-of d) b)) m o mid r → Spelled (value vs (expression (sheet-of d) i)) l o at r
-    spell-conc a b l m o at mid r k p q = subst (λ v. Spelled v l o at r) (sym (value-as (V.Conc a b) k)) (spelled-join (value vs (expression (sheet-of d) a)) (value vs (expression (sheet-of d) b)) l m o at mid r p q)
+    pub spell-conc : (a b : ℕ) (l m o : List ℕ) (at mid : ℕ) (r : Option ℕ) → mid ≤ longest → x ≡ V.Conc a b → Spelled (value vs (expression (sheet-of d) a)) l m at (ends-of mid) → Spelled (value vs (expression (sheet-of d) b)) m o mid r → Spelled (value vs (expression (sheet-of d) i)) l o at r
+    spell-conc a b l m o at mid r h k p q =
+        subst (λ v. Spelled v l o at r) (sym (value-as (V.Conc a b) k))
+        (spelled-join (value vs (expression (sheet-of d) a)) (value vs (expression (sheet-of d) b)) l m o at mid r (subst (Spelled (value vs (expression (sheet-of d) a)) l m at) (in-line mid h) p) q)
 
-    pub spell-conc-none : (a b : ℕ) (l m : List ℕ) (at : ℕ) → x ≡ V.Conc a b → Spelled (value vs (expression (sheet-of d) a)) l m at None → Spelled (value vs (expression (sheet-of d) i)) l m at None
-    spell-conc-none a b l m at k p =
-        subst (λ v. Spelled v l m at None) (sym (value-as (V.Conc a b) k))
+    pub spell-conc-none : (a b : ℕ) (l m : List ℕ) (at mid : ℕ) → longest < mid → x ≡ V.Conc a b → Spelled (value vs (expression (sheet-of d) a)) l m at (ends-of mid) → Spelled (value vs (expression (sheet-of d) i)) l m at (ends-of mid)
+    spell-conc-none a b l m at mid h k p =
+        subst (Spelled (value vs (expression (sheet-of d) i)) l m at) (sym (past-line mid h))
+        (subst (λ v. Spelled v l m at None) (sym (value-as (V.Conc a b) k))
         (spelled-none (value vs (expression (sheet-of d) a)) (value vs (expression (sheet-of d) b)) l m at
-        (long-only (kinds (sheet-of d)) vs (expression (sheet-of d) b) (expression-fine (sheet-of d) (sound d) i b 2 (conc-leads a b k .1) (λ z. omega arith))) p)
+        (long-only (kinds (sheet-of d)) vs (expression (sheet-of d) b) (expression-fine (sheet-of d) (sound d) i b 2 (conc-leads a b k .1) (λ z. omega arith))) (subst (Spelled (value vs (expression (sheet-of d) a)) l m at) (past-line mid h) p)))
 
     -- the whole
     pub computed-variable : (p s n : ℕ) (y : Outcome) (l m : List ℕ) → length (bytes-of (getD vs n (number 0))) ≤ longest → x ≡ V.Variable p s n → Ok y ≡ seen vs n l .answer → m ≡ seen vs n l .line → Computed (value vs (expression (sheet-of d) i)) (Ok y) m

@@ -14,7 +14,7 @@ use Rattle.shelf.specs.Value.{Value, number, text, num-of, bytes-of}
 use Rattle.shelf.specs.declared.refusal.Refusal.{Refusal}
 use Rattle.shelf.specs.declared.refusal.Refusal.the-variants.{NoCapacity}
 use Rattle.semantics.specs.declared.status.Cause.{Cause}
-use Rattle.semantics.specs.declared.status.Cause.the-variants.{SumTooLarge, TextTooLong}
+use Rattle.semantics.specs.declared.status.Cause.the-variants.{TextTooLong}
 use Rattle.semantics.specs.declared.call.Outcome.{Outcome}
 use Rattle.semantics.specs.declared.call.Outcome.the-variants.{Number, Text}
 use Rattle.semantics.specs.Semantics.{crowded}
@@ -36,12 +36,24 @@ abbrev pub numbered : Result Value Cause → Result ℕ Cause
 numbered (Ok u) = Ok (num-of u)
 numbered (Err c) = Err c
 
-abbrev pub sum-of : ℕ → ℕ → Result ℕ Cause
-sum-of x y = cond (ltb largest (x + y)) (Err SumTooLarge) (Ok (x + y))
+-- more than every number: what a sum comes to that passes the largest
+abbrev pub beyond : ℕ
+beyond = 4294967296
+
+abbrev pub amount-of : Result ℕ Cause → ℕ
+amount-of (Ok n) = n
+amount-of (Err c) = beyond
+
+abbrev pub sum-of : ℕ → ℕ → ℕ
+sum-of x y = cond (ltb largest (x + y)) beyond (x + y)
 
 -- where a text that begins at the place at ends, if the line is long enough
 abbrev pub ending : ℕ → ℕ → Option ℕ
 ending at n = cond (leb (at + n) longest) (Some (at + n)) None
+
+-- the same from where it ends, or from any place past the line
+abbrev pub ends-of : ℕ → Option ℕ
+ends-of r = cond (leb r longest) (Some r) None
 
 pub record Appended (before after : List ℕ) (at : ℕ) (t : List ℕ) (r : Option ℕ) : Type 0 where
   pub says : r ≡ ending at (length t)

@@ -11,6 +11,10 @@ use Rattle.nodes.specs.Trees.{tree, nest}
 use Rattle.semantics.specs.declared.status.Status.{Status}
 use Rattle.semantics.specs.declared.status.Status.the-variants.{Ready, Ended, Stopped}
 
+-- the most series still to do: one for each nest, and the sheet's own
+abbrev pub most-series : ℕ
+most-series = 17
+
 -- the nest of node i is at most m
 abbrev pub reaches : Sheet → ℕ → ℕ → Bool
 reaches sh i m = leb (nest (tree (sh .nodes) i)) m

@@ -10,7 +10,7 @@ ghost use Rattle.shelf.specs.Value.{num-of, number};
 ghost use Rattle.semantics.specs.Syntax.{expression};
 ghost use Rattle.semantics.specs.Expressions.{value};
 ghost use Rattle.semantics.specs.Calls.{seen};
-ghost use Rattle.player.specs.Evaluation.{numbered, sum-of, Appended, Spelled, Computed, spelling};
+ghost use Rattle.player.specs.Evaluation.{beyond, amount-of, numbered, sum-of, ends-of, Appended, Spelled, Computed, spelling};
 use crate::course::moves::view_at;
 use deck::deck::Deck;
 use nodes::view::View;
@@ -22,7 +22,11 @@ use shelf::Refusal;
 use shelf::Shelf;
 
 // What stands at i; a text stands in the line, with zeros behind it.
-pub(crate) fn seen<S: Shelf>(shelf: &S, i: usize, line: &mut [u8; 80]) -> Result<Outcome, Refusal>
+pub(crate) fn seen<S: Shelf>(
+    shelf: &S,
+    i: usize,
+    line: &mut [u8; LONGEST],
+) -> Result<Outcome, Refusal>
     ensures answer { λ r. ⌜ r ≡ seen (S·Shelf .values (now (shelf .entry))) i (now (line .entry)) .answer ⌝ }
     ensures line { λ _. ⌜ now (line .exit) ≡ seen (S·Shelf .values (now (shelf .entry))) i (now (line .entry)) .line ⌝ }
 {
@@ -49,13 +53,44 @@ fn number_at<S: Shelf>(shelf: &S, i: usize) -> u32
     }
 }
 
-fn add(x: u32, y: u32) -> Result<u32, Cause>
-    ensures { λ r. ⌜ r ≡ sum-of x y ⌝ }
+// The largest number, and what a sum comes to that passes it: more than every number.
+const LARGEST: u64 = 4294967295;
+
+const BEYOND: u64 = 4294967296;
+
+fn add(x: u64, y: u64) -> u64
+    requires first { ⌜ x ≤ beyond ⌝ }
+    requires second { ⌜ y ≤ beyond ⌝ }
+    ensures sum { λ r. ⌜ r ≡ sum-of x y ⌝ }
+    ensures bound { λ r. ⌜ r ≤ beyond ⌝ }
 {
-    if x > u32::MAX - y {
-        return Err(Cause::SumTooLarge);
+    let sum = x + y;
+    if sum > LARGEST {
+        return BEYOND;
     }
-    Ok(x + y)
+    sum
+}
+
+// The value of an expression that is no text, or `BEYOND`. It calls itself, so it answers a bare number.
+fn sum_at<S: Shelf>(shelf: &S, deck: &Deck, i: u16) -> u64
+    requires { ⌜ (kind-in (kinds (sheet-of (now deck))) (view-at (sheet-of (now deck) .nodes) i) ≡ string → ⊥) ⌝ }
+    ensures sum { λ r. ⌜ r ≡ amount-of (numbered (value (S·Shelf .values (now (shelf .entry))) (expression (sheet-of (now (deck .entry))) i))) ⌝ }
+    ensures bound { λ r. ⌜ r ≤ beyond ⌝ }
+{
+    match view_at(deck, i) {
+        View::Variable {
+            place: _,
+            size: _,
+            number,
+        } => number_at(shelf, number as usize) as u64,
+        View::Number { value } => value as u64,
+        View::Plus { left, right } => {
+            let x = sum_at(shelf, deck, left);
+            let y = sum_at(shelf, deck, right);
+            add(x, y)
+        }
+        _ => 0,
+    }
 }
 
 // The value of an expression that is no text.
@@ -63,46 +98,34 @@ pub(crate) fn amount_at<S: Shelf>(shelf: &S, deck: &Deck, i: u16) -> Result<u32,
     requires { ⌜ (kind-in (kinds (sheet-of (now deck))) (view-at (sheet-of (now deck) .nodes) i) ≡ string → ⊥) ⌝ }
     ensures { λ r. ⌜ r ≡ numbered (value (S·Shelf .values (now (shelf .entry))) (expression (sheet-of (now (deck .entry))) i)) ⌝ }
 {
-    match view_at(deck, i) {
-        View::Variable {
-            place: _,
-            size: _,
-            number,
-        } => Ok(number_at(shelf, number as usize)),
-        View::Number { value } => Ok(value),
-        View::Plus { left, right } => {
-            let x = amount_at(shelf, deck, left)?;
-            let y = amount_at(shelf, deck, right)?;
-            add(x, y)
-        }
-        _ => Ok(0),
+    let x = sum_at(shelf, deck, i);
+    if x > LARGEST {
+        return Err(Cause::SumTooLarge);
     }
+    Ok(x as u32)
 }
 
-// Puts the bytes into the line from `at` on, and answers where they end, if the line is long enough.
-fn append(line: &mut [u8; 80], at: usize, bytes: &[u8]) -> Option<usize>
+// Past every place of a line.
+const TOO_FAR: usize = 81;
+
+// Puts the bytes into the line from `at` on, and answers where they end, or `TOO_FAR`.
+fn append(line: &mut [u8; LONGEST], at: usize, bytes: &[u8]) -> usize
     requires { ⌜ at ≤ longest ⌝ }
-    ensures { λ r. ⌜ Appended (now (line .entry)) (now (line .exit)) at (now (bytes .entry)) r ⌝ }
+    ensures { λ r. ⌜ Appended (now (line .entry)) (now (line .exit)) at (now (bytes .entry)) (ends-of r) ⌝ }
 {
     let n = bytes.len();
     if n > LONGEST - at {
-        return None;
+        return TOO_FAR;
     }
     line[at..at + n].copy_from_slice(bytes);
-    Some(at + n)
+    at + n
 }
 
-// Appends the value of an expression that is a text.
-fn spell_at<S: Shelf>(
-    shelf: &S,
-    deck: &Deck,
-    i: u16,
-    line: &mut [u8; 80],
-    at: usize,
-) -> Option<usize>
+// Appends the value of an expression that is a text, and answers where it ends, or `TOO_FAR`. It calls itself, so it answers a bare number.
+fn spell_at<S: Shelf>(shelf: &S, deck: &Deck, i: u16, line: &mut [u8; LONGEST], at: usize) -> usize
     requires text { ⌜ kind-in (kinds (sheet-of (now deck))) (view-at (sheet-of (now deck) .nodes) i) ≡ string ⌝ }
     requires place { ⌜ at ≤ longest ⌝ }
-    ensures { λ r. ⌜ Spelled (value (S·Shelf .values (now (shelf .entry))) (expression (sheet-of (now (deck .entry))) i)) (now (line .entry)) (now (line .exit)) at r ⌝ }
+    ensures { λ r. ⌜ Spelled (value (S·Shelf .values (now (shelf .entry))) (expression (sheet-of (now (deck .entry))) i)) (now (line .entry)) (now (line .exit)) at (ends-of r) ⌝ }
 {
     match view_at(deck, i) {
         View::Variable {
@@ -110,10 +133,10 @@ fn spell_at<S: Shelf>(
             size: _,
             number,
         } => {
-            let mut text = [0; 80];
+            let mut text = [0; LONGEST];
             match shelf.text(number as usize, &mut text) {
                 Ok(n) => append(line, at, &text[0..n]),
-                Err(_) => Some(at),
+                Err(_) => at,
             }
         }
         View::Text { place, size } => {
@@ -122,20 +145,23 @@ fn spell_at<S: Shelf>(
             append(line, at, &letters[from..from + size as usize])
         }
         View::Conc { left, right } => {
-            let mid = spell_at(shelf, deck, left, line, at)?;
+            let mid = spell_at(shelf, deck, left, line, at);
+            if mid > LONGEST {
+                return mid;
+            }
             spell_at(shelf, deck, right, line, mid)
         }
-        _ => Some(at),
+        _ => at,
     }
 }
 
-fn spelled(end: Option<usize>) -> Result<Outcome, Cause>
-    ensures { λ r. ⌜ r ≡ spelling end ⌝ }
+fn spelled(end: usize) -> Result<Outcome, Cause>
+    ensures { λ r. ⌜ r ≡ spelling (ends-of end) ⌝ }
 {
-    match end {
-        Some(n) => Ok(Outcome::Text(n)),
-        None => Err(Cause::TextTooLong),
+    if end > LONGEST {
+        return Err(Cause::TextTooLong);
     }
+    Ok(Outcome::Text(end))
 }
 
 // The value of an expression; a text stands in the line.
@@ -143,7 +169,7 @@ pub(crate) fn evaluate<S: Shelf>(
     shelf: &S,
     deck: &Deck,
     i: u16,
-    line: &mut [u8; 80],
+    line: &mut [u8; LONGEST],
 ) -> Result<Outcome, Cause>
     ensures { λ r. ⌜ Computed (value (S·Shelf .values (now (shelf .entry))) (expression (sheet-of (now (deck .entry))) i)) r (now (line .exit)) ⌝ }
 {

@@ -8,13 +8,14 @@ ghost use Rattle.shelf.specs.Calls.{open-told, open-list};
 ghost use Rattle.player.specs.Opening.{open-answer, opened};
 use deck::deck::Deck;
 use shelf::Refusal;
+use shelf::SLOTS;
 use shelf::Shelf;
 
 // The kinds that the deck declares, at the front of a table.
-fn declared(deck: &Deck) -> [u8; 64]
+fn declared(deck: &Deck) -> [u8; SLOTS]
     ensures { λ r. ⌜ take (sheet-of (now (deck .entry)) .variables) r ≡ kinds (sheet-of (now (deck .entry))) ⌝ }
 {
-    let mut kinds = [0; 64];
+    let mut kinds = [0; SLOTS];
     let mut i = 0;
     while i < deck.variables() {
         kinds[i] = deck.node_at(i as u16).c as u8;

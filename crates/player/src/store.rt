@@ -7,6 +7,7 @@ ghost use Rattle.shelf.specs.Value.{number, text};
 ghost use Rattle.semantics.specs.declared.call.Outcome.the-variants.{Text};
 ghost use Rattle.player.specs.Evaluation.{meant, store-answer, stored};
 use semantics::call::Outcome;
+use shelf::LONGEST;
 use shelf::Refusal;
 use shelf::Shelf;
 
@@ -41,7 +42,7 @@ pub(crate) fn store<S: Shelf>(
     shelf: &mut S,
     to: usize,
     value: Outcome,
-    line: &[u8; 80],
+    line: &[u8; LONGEST],
 ) -> Result<(), Refusal>
     requires { ⌜ ((n : ℕ) → value ≡ Text n → n ≤ longest) ⌝ }
     ensures answer { λ r. ⌜ r ≡ store-answer (S·Shelf .capacity (now (shelf .entry))) (S·Shelf .values (now (shelf .entry))) to (meant value (now (line .entry))) ⌝ }

@@ -2,6 +2,7 @@
 ghost use mathlib.Core.Path.{_≡_};
 ghost use Rattle.semantics.specs.Refusals.{look-number};
 use crate::status::Status;
+use shelf::LONGEST;
 use shelf::Refusal;
 
 #[derive(Clone, Copy)]
@@ -10,7 +11,7 @@ pub enum Call {
     Play(u16),
     Rewind,
     // Variable `of` is looked at; the line is there for a text.
-    Look { of: usize, line: [u8; 80] },
+    Look { of: usize, line: [u8; LONGEST] },
 }
 
 // How far a Play came.
@@ -43,7 +44,7 @@ pub enum Answer {
     // What was seen, and the line after it.
     Looked {
         seen: Result<Outcome, LookRefusal>,
-        line: [u8; 80],
+        line: [u8; LONGEST],
     },
 }
 

@@ -22,5 +22,5 @@ returns c =
       sum-stops = refl;
       endless = refl;
       nine-for-six = refl;
-      two-more = refl
+      two-more = refl;
     }

@@ -10,10 +10,11 @@ ghost use Rattle.deck.specs.Sheets.{sheet-of};
 ghost use Rattle.semantics.specs.Semantics.{settle};
 ghost use Rattle.semantics.specs.declared.status.Status.the-variants.{Ready, Stopped};
 ghost use Rattle.semantics.specs.declared.status.Cause.the-variants.{TooFewSlots};
-ghost use Rattle.player.specs.Stack.{reaches};
+ghost use Rattle.player.specs.Stack.{most-series, reaches};
 ghost use Rattle.player.specs.Of.{todo-of, behind, Moved, status-for, Comes};
 use crate::course::Coming;
 use crate::course::Course;
+use crate::course::DEPTH;
 use deck::deck::Deck;
 use nodes::node::SERIES;
 use nodes::view::View;
@@ -35,8 +36,8 @@ fn last_node(deck: &Deck) -> u16
 }
 
 // How many series are left once the empty ones in front are dropped.
-fn settle(deck: &Deck, todo: &[u16; 17], len: usize) -> usize
-    requires { ⌜ len ≤ 17 ⌝ }
+fn settle(deck: &Deck, todo: &[u16; DEPTH], len: usize) -> usize
+    requires { ⌜ len ≤ most-series ⌝ }
     ensures few { λ r. ⌜ r ≤ len ⌝ }
     ensures list { λ r. ⌜ reverse (take r (now (todo .entry))) ≡ settle (sheet-of (now (deck .entry))) (reverse (take len (now (todo .entry)))) ⌝ }
     ensures full { λ r. ⌜ (0 < r → node-at (sheet-of (now (deck .entry)) .nodes) (getD (now (todo .entry)) (r - 1) 0) .kind ≡ 10) ⌝ }
@@ -66,7 +67,7 @@ impl Course {
         ensures deck { λ r. ⌜ r .deck ≡ deck ⌝ }
         ensures moved { λ r. ⌜ Moved (sheet-of deck) r ((length (sheet-of deck .nodes) - 1) ∷ []) ⌝ }
     {
-        let mut todo = [0; 17];
+        let mut todo = [0; DEPTH];
         todo[0] = last_node(&deck);
         let len = settle(&deck, &todo, 1);
         let status = status_for(len);
@@ -82,7 +83,7 @@ impl Course {
         ensures deck { λ _. ⌜ now (self .exit) .deck ≡ now (self .entry) .deck ⌝ }
         ensures moved { λ _. ⌜ Moved (sheet-of (now (self .entry) .deck)) (now (self .exit)) ((length (sheet-of (now (self .entry) .deck) .nodes) - 1) ∷ []) ⌝ }
     {
-        let mut todo = [0; 17];
+        let mut todo = [0; DEPTH];
         todo[0] = last_node(&self.deck);
         let len = settle(&self.deck, &todo, 1);
         self.todo = todo;

@@ -27,6 +27,7 @@ use semantics::call::Outcome;
 use semantics::call::Progress;
 use semantics::status::Cause;
 use semantics::status::Status;
+use shelf::LONGEST;
 use shelf::Shelf;
 
 // The series that an if goes on with.
@@ -61,14 +62,22 @@ impl<S: Shelf> Player<S> {
             Ok(_) => {}
             Err(_) => course.lack_slots(),
         }
-        Player { course, shelf }
+        Player {
+            course,
+            shelf,
+            line: [0; LONGEST],
+        }
     }
 
     // Eject: the deck and the shelf, back to the caller.
     pub fn eject(self) -> (Deck, S)
         ensures { λ r. ⌜ r ≡ (deck-of self, self .shelf) ⌝ }
     {
-        let Player { course, shelf } = self;
+        let Player {
+            course,
+            shelf,
+            line: _,
+        } = self;
         let Course {
             deck,
             todo: _,
@@ -104,10 +113,9 @@ impl<S: Shelf> Player<S> {
         ensures state { λ _. ⌜ state-of (S·Shelf .values) (now (self .exit)) ≡ beat (sheet-of (deck-of (now (self .entry)))) (S·Shelf .capacity (now (self .entry) .shelf)) (state-of (S·Shelf .values) (now (self .entry))) ⌝ }
     {
         let to = self.course.deck.node_at(target).c as usize;
-        let mut line = [0; 80];
-        match evaluate(&self.shelf, &self.course.deck, value, &mut line) {
+        match evaluate(&self.shelf, &self.course.deck, value, &mut self.line) {
             Err(cause) => self.course.stop(cause, coming.at),
-            Ok(value) => match store(&mut self.shelf, to, value, &line) {
+            Ok(value) => match store(&mut self.shelf, to, value, &self.line) {
                 Ok(_) => self.course.go_on(coming.rest),
                 Err(why) => self.course.stop(Cause::NoRoom(why), coming.at),
             },
@@ -215,7 +223,7 @@ impl<S: Shelf> Player<S> {
         }
     }
 
-    fn show(&self, of: usize, line: &mut [u8; 80]) -> Result<Outcome, LookRefusal>
+    fn show(&self, of: usize, line: &mut [u8; LONGEST]) -> Result<Outcome, LookRefusal>
         ensures { λ r. ⌜ Looked r (now (line .exit)) ≡ looked (S·Shelf .values (now (self .entry) .shelf)) of (now (line .entry)) ⌝ }
     {
         match seen(&self.shelf, of, line) {
@@ -225,7 +233,7 @@ impl<S: Shelf> Player<S> {
     }
 
     // Look: what variable `of` holds; a text stands in the line.
-    pub fn look(&self, of: usize, line: &mut [u8; 80]) -> Result<Outcome, LookRefusal>
+    pub fn look(&self, of: usize, line: &mut [u8; LONGEST]) -> Result<Outcome, LookRefusal>
         ensures { λ r. ⌜ Looked r (now (line .exit)) ≡ look-at (now (self .entry) .course .status) (S·Shelf .values (now (self .entry) .shelf)) of (now (line .entry)) ⌝ }
     {
         match self.course.status {
@@ -237,7 +245,7 @@ impl<S: Shelf> Player<S> {
         }
     }
 
-    fn answer_look(&self, of: usize, line: [u8; 80]) -> Answer
+    fn answer_look(&self, of: usize, line: [u8; LONGEST]) -> Answer
         ensures { λ r. ⌜ r ≡ look-at (now (self .entry) .course .status) (S·Shelf .values (now (self .entry) .shelf)) of line ⌝ }
     {
         let mut line = line;

@@ -23,10 +23,10 @@ pub returns-in-Err : need.returns-in-Err
 returns-in-Err g c = computed-no-entry (c .args .deck .now) (c .args .i) (c .view-at .result) (c .view-at .ensures) (g .S·Shelf .values (c .args .shelf .now)) _ _ (c .in-Variable .number) _ (c .args .line .now) _ (c .in-Variable .is) (c .in-Err .ensures tt .answer)
 
 pub returns-in-Text : need.returns-in-Text
-returns-in-Text g c = computed-text (c .args .deck .now) (c .args .i) (c .view-at .result) (c .view-at .ensures) (g .S·Shelf .values (c .args .shelf .now)) _ _ (c .args .line .now) (c .spell-at .last .line) (c .spell-at .result) _ (c .in-Text .is) (c .spell-at .ensures) (c .spelled .ensures)
+returns-in-Text g c = computed-text (c .args .deck .now) (c .args .i) (c .view-at .result) (c .view-at .ensures) (g .S·Shelf .values (c .args .shelf .now)) _ _ (c .args .line .now) (c .spell-at .last .line) _ _ (c .in-Text .is) (c .spell-at .ensures) (c .spelled .ensures)
 
 pub returns-in-Conc : need.returns-in-Conc
-returns-in-Conc g c = computed-conc (c .args .deck .now) (c .args .i) (c .view-at .result) (c .view-at .ensures) (g .S·Shelf .values (c .args .shelf .now)) _ _ (c .args .line .now) (c .spell-at-in-Conc .last .line) (c .spell-at-in-Conc .result) _ (c .in-Conc .is) (c .spell-at-in-Conc .ensures) (c .spelled-in-Conc .ensures)
+returns-in-Conc g c = computed-conc (c .args .deck .now) (c .args .i) (c .view-at .result) (c .view-at .ensures) (g .S·Shelf .values (c .args .shelf .now)) _ _ (c .args .line .now) (c .spell-at-in-Conc .last .line) _ _ (c .in-Conc .is) (c .spell-at-in-Conc .ensures) (c .spelled-in-Conc .ensures)
 
 pub returns-in-Ok-amount-at : need.returns-in-Ok-amount-at
 returns-in-Ok-amount-at g c = computed-number (c .args .deck .now) (c .args .i) (c .view-at .result) (c .view-at .ensures) (g .S·Shelf .values (c .args .shelf .now)) _ _ (c .in-rest .not-Variable) (c .in-rest .not-Text) (c .in-rest .not-Conc) (c .in-Ok-amount-at .ensures tt)

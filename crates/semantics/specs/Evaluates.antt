@@ -1,4 +1,4 @@
--- The evaluation of series and statements as a relation on values, as the language report has it: a rule to a constructor, and no limits.
+-- The evaluation of series and statements as a relation on values: a rule to a constructor, and no limits.
 use Prim.Native.Nat.{ℕ, _+_, _-_}
 use mathlib.Core.List.{List, map}
 use mathlib.Core.Path.{_≡_}

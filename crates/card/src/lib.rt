@@ -1,4 +1,6 @@
 // The card: a sheet as bytes, with Pack, Unpack, and Judge for C.
+#![tactic(auto)]
+
 pub mod judge;
 pub mod laws;
 pub mod pack;

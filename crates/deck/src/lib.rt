@@ -1,4 +1,6 @@
 // Load's rules, and the deck: a sheet that has passed them.
+#![tactic(auto)]
+
 pub mod check;
 pub mod deck;
 pub mod fault;

@@ -1,4 +1,6 @@
 // drill: answers conformance requests, one to a line of the standard input, one answer to a line of the standard output.
+#![tactic(auto)]
+
 mod cards;
 mod decks;
 mod failure;

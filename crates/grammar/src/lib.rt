@@ -1,4 +1,6 @@
 // The grammar of sheets, and what reading word by word has to do with it: each law is the contract of a function.
+#![tactic(auto)]
+
 ghost use Rattle.grammar.specs.Laws.{Sound, Complete, Unambiguous, Faults, Exact};
 
 // What reading accepts, the rules of the grammar derive.

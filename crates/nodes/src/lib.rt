@@ -1,4 +1,6 @@
 // The nodes of a sheet: limits, kinds, and what a node says. Shared by every layer that handles a sheet.
+#![tactic(auto)]
+
 pub mod binding;
 pub mod limits;
 pub mod node;

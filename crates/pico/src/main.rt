@@ -1,4 +1,6 @@
 // pico: reads, checks, packs and plays sheets from the command line.
+#![tactic(auto)]
+
 mod cards;
 mod failure;
 mod fault;

@@ -1,4 +1,6 @@
 // Read: from the text of a sheet to nodes, or the first fault.
+#![tactic(auto)]
+
 pub mod declarations;
 pub mod expression;
 pub mod laws;

@@ -1,4 +1,6 @@
 // A shelf, as the client calls it: where a player's variables stand.
+#![tactic(auto)]
+
 ghost use Rattle.std.specs.Prelude.{◌≡◌, ℕ, ◌≤◌, List, length, take, replicate};
 ghost use Rattle.shelf.specs.Limits.{longest};
 ghost use Rattle.shelf.specs.Laws.{Laws};

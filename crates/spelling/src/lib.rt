@@ -1,4 +1,6 @@
 // The one search by spelling, for tables of any sort: keywords, declared names.
+#![tactic(auto)]
+
 ghost use Rattle.std.specs.Prelude.{◌≡◌};
 ghost use Rattle.spelling.specs.Table.{spells, matched, or_else, found};
 

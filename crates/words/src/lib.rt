@@ -1,4 +1,6 @@
 // The words of a sheet: bytes, keywords, the scanner and its laws.
+#![tactic(auto)]
+
 pub mod byte;
 pub mod laws;
 pub mod name;

@@ -11,7 +11,7 @@ use Rattle.deck.specs.declared.fault.Fault.{Fault}
 use Rattle.deck.specs.declared.fault.Refusal.{Refusal}
 use Rattle.deck.specs.declared.fault.Refusal.TheVariants as D
 use Rattle.deck.specs.Load.{sizes_fit, load_says}
-use Rattle.deck.specs.Refusals.{number_of as sheet-number}
+use Rattle.deck.specs.Refusals.{number_of as sheet_number}
 use Rattle.deck.specs.Sheets.{sheet_of}
 use Rattle.deck.proofs.Accepted.{accepted, same_load}
 use Rattle.deck.proofs.OfDeck.{loads, deck_with}
@@ -187,7 +187,7 @@ card_number R.Length q = omega arith
 card_number R.FewPlaces q = omega arith
 card_number R.ShortBuffer q = omega arith
 
-load_number : (e : Refusal) → sheet-number e ≡ 0 → ⊥
+load_number : (e : Refusal) → sheet_number e ≡ 0 → ⊥
 load_number D.Sizes q = omega arith
 load_number D.Misplaced q = omega arith
 load_number D.Malformed q = omega arith

@@ -4,7 +4,7 @@ use Rattle.nodes.specs.declared.node.Node.{Node}
 use Rattle.nodes.specs.Nodes.{Sheet, blank}
 use Rattle.deck.specs.declared.fault.Fault.{Fault}
 use Rattle.deck.specs.Load.{load_says}
-use Rattle.deck.specs.Refusals.{number_of as sheet-number}
+use Rattle.deck.specs.Refusals.{number_of as sheet_number}
 use Rattle.card.specs.declared.refusal.CardRefusal.{CardRefusal}
 use Rattle.card.specs.declared.refusal.CardRefusal.TheVariants as R
 use Rattle.card.specs.declared.unpack.Sizes.{Sizes}
@@ -76,7 +76,7 @@ verdict_of (Err e) = V.Card e
 abbrev pub answer : Verdict → ℕ
 answer V.Accepted = 0
 answer (V.Card e) = number_of e
-answer (V.Sheet e) = sheet-number e
+answer (V.Sheet e) = sheet_number e
 
 -- Judge's answer
 abbrev pub judge_says : List ℕ → ℕ

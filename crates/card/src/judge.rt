@@ -1,4 +1,4 @@
-// Judge: what Unpack and Load say of a card, for a caller in C.
+// Judge: what Unpack and Load say of a card. The crate `card_c` offers it to C.
 ghost use Rattle.std.specs.Prelude.{◌≡◌};
 ghost use Rattle.card.specs.Calls.{verdict_of, judge_says};
 ghost use Rattle.card.specs.Card.{sheet_in};
@@ -35,8 +35,7 @@ fn assess(card: &[u8]) -> Verdict
 }
 
 // Judge: 0, or the number of the refusal of Unpack or Load.
-#[unsafe(no_mangle)]
-pub extern "C" fn judge(card: &[u8]) -> u32
+pub fn judge(card: &[u8]) -> u32
     ensures { result ≡ judge_says card.now }
 {
     match assess(card) {

@@ -1,4 +1,4 @@
-// The card: a sheet as bytes, with Pack, Unpack, and Judge for C.
+// The card: a sheet as bytes, with Pack, Unpack and Judge.
 #![tactic(auto)]
 
 pub mod judge;

@@ -4,7 +4,7 @@ ghost use Rattle.std.specs.List.{flat_map};
 ghost use Rattle.std.proofs.Math.Seq.{paste};
 ghost use Rattle.deck.specs.Sheets.{sheet_of};
 ghost use Rattle.card.specs.Calls.{pack_says, packed};
-ghost use Rattle.card.specs.Card.{triple as triple-of, fields_of, card_of};
+ghost use Rattle.card.specs.Card.{triple as triple_of, fields_of, card_of};
 
 use crate::refusal::CardRefusal;
 use deck::deck::Deck;
@@ -24,7 +24,7 @@ fn high(x: u16) -> u8
 
 // Three numbers, low byte first.
 fn triple(a: u16, b: u16, c: u16) -> [u8; 6]
-    ensures { result ≡ triple-of a b c }
+    ensures { result ≡ triple_of a b c }
 {
     [low(a), high(a), low(b), high(b), low(c), high(c)]
 }

@@ -22,7 +22,7 @@ name_inside ls x k e = (and_parts (inside ls x.a x.b) (is_name (spelled ls x.a x
 
 module _ (ls : List ℕ) (ns : List Node) (v i : ℕ) (c : Clean ls ns v i) (h : i < v) where
   pub is_declaration : (node_at ns i).kind ≡ 1
-  is_declaration = declares v i (node_at ns i).kind c.placed-right h
+  is_declaration = declares v i (node_at ns i).kind c.placed_right h
 
   pub has_kind : ((node_at ns i).c ≡ integer) ⊎ ((node_at ns i).c ≡ string)
   has_kind =

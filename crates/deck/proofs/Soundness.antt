@@ -33,7 +33,7 @@ variable_found ls ns v x k e f = by (looked ls (names v ns) x) refl
 
 pub number_below : (ls : List ℕ) (ns : List Node) (v i : ℕ) → Clean ls ns v i → (node_at ns i).kind ≡ 2 → (node_at ns i).c < v
 number_below ls ns v i c k =
-    let p = variable_found ls ns v (node_at ns i) k c.known c.number-right in
+    let p = variable_found ls ns v (node_at ns i) k c.known c.number_right in
     let q = found_some ls (spelled ls (node_at ns i).a (node_at ns i).b) ns v p.0 p.1.0 in
     let l = q.0 in let e = p.1.1 in omega arith
 

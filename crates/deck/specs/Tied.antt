@@ -5,13 +5,13 @@ use Rattle.nodes.specs.Trees.{tree, level, nest}
 use Rattle.deck.specs.declared.fault.Fault.{Fault}
 use Rattle.deck.specs.declared.fault.Refusal.TheVariants as R
 use Rattle.deck.specs.declared.tables.Tables.{Tables}
-use Rattle.deck.specs.Rules.{taken as taken-by}
+use Rattle.deck.specs.Rules.{taken as taken_by}
 
 -- the tables when node i is to be judged
 pub record Tied (ns : List Node) (i : ℕ) (t : Tables) : Type 0 where
   pub level_is : (k : ℕ) → k < i → slice_index t.levels k ≡ level (tree ns k)
   pub nest_is : (k : ℕ) → k < i → slice_index t.nests k ≡ nest (tree ns k)
-  pub taken_is : (k : ℕ) → slice_index_or t.taken k false ≡ taken-by ns i k
+  pub taken_is : (k : ℕ) → slice_index_or t.taken k false ≡ taken_by ns i k
 
 -- the table with more nodes taken
 abbrev pub marked : List Bool → List ℕ → List Bool

@@ -2,7 +2,7 @@
 ghost use Rattle.std.specs.Prelude.{◌≡◌, ◌<◌, ◌≤◌, length, take};
 ghost use Rattle.nodes.specs.Limits.{most_nodes, most_variables};
 ghost use Rattle.deck.specs.Load.{sizes_fit, sheet_says, load_says};
-ghost use Rattle.deck.specs.Rules.{names as names-by};
+ghost use Rattle.deck.specs.Rules.{names as names_by};
 
 use crate::fault::{Fault, Refusal};
 use crate::rules::Binding;
@@ -22,7 +22,7 @@ pub fn sizes_fit(t: usize, m: usize, n: usize, v: usize) -> bool
 // The names that the first v nodes declare.
 fn names_of(nodes: &[Node], v: usize) -> [Entry<Binding>; VARIABLES]
     requires { v ≤ most_variables }
-    ensures { take v result ≡ names-by v nodes.now }
+    ensures { take v result ≡ names_by v nodes.now }
 {
     let mut names = [Entry {
         place: 0,

@@ -2,8 +2,8 @@
 ghost use Rattle.std.specs.Prelude.{◌≡◌, false, ◌&&◌, take, is_some, ◌==◌, nat_le, slice_index_or};
 ghost use Rattle.words.specs.Words.{largest};
 ghost use Rattle.nodes.specs.Nodes.{leads, all_lead, targets};
-ghost use Rattle.deck.specs.Rules.{inside, spelled, placed as placed_at_lem, named as named-at, worded as worded-at, formed as formed-by, again as again-at, looked as looked-up, same_number, agree as agreeing, shallow as shallow-at, ensured};
-ghost use Rattle.deck.specs.Load.{after, naming as naming-of};
+ghost use Rattle.deck.specs.Rules.{inside, spelled, placed as placed_at, named as named_at, worded as worded_at, formed as formed_by, again as again_at, looked as looked_up, same_number, agree as agreeing, shallow as shallow_at, ensured};
+ghost use Rattle.deck.specs.Load.{after, naming as naming_of};
 
 use crate::fault::Refusal;
 use nodes::limits::{LEVEL, NEST};
@@ -29,7 +29,7 @@ pub fn ensure<E: Copy>(holds: bool, refusal: E) -> Result<(), E>
 }
 
 pub(crate) fn placed(v: usize, i: usize, kind: u8) -> bool
-    ensures { result ≡ placed_at_lem v i kind }
+    ensures { result ≡ placed_at v i kind }
 {
     match kind {
         DECLARATION => i < v,
@@ -55,13 +55,13 @@ fn part<'a>(letters: &'a [u8], place: u16, size: u16) -> &'a [u8]
 }
 
 fn named(letters: &[u8], place: u16, size: u16) -> bool
-    ensures { result ≡ named-at letters.now place size }
+    ensures { result ≡ named_at letters.now place size }
 {
     lies_inside(letters, place, size) && is_name(part(letters, place, size))
 }
 
 fn worded(letters: &[u8], place: u16, size: u16) -> bool
-    ensures { result ≡ worded-at letters.now place size }
+    ensures { result ≡ worded_at letters.now place size }
 {
     lies_inside(letters, place, size)
         && size as usize <= LONGEST
@@ -77,7 +77,7 @@ fn numeral(x: Node, value: u32) -> bool
 }
 
 pub(crate) fn formed(letters: &[u8], x: Node) -> bool
-    ensures { result ≡ formed-by letters.now x }
+    ensures { result ≡ formed_by letters.now x }
 {
     match x.view() {
         View::Declaration { place, size, kind } => {
@@ -110,7 +110,7 @@ pub(crate) fn led(nodes: &[Node], i: usize, arrows: Arrows) -> bool
 
 // Whether an arrow leads where one led before, or two of these lead to one node.
 pub(crate) fn again(taken: &[bool], arrows: Arrows) -> bool
-    ensures { result ≡ again-at (λ k. slice_index_or taken.now k false) (targets arrows) }
+    ensures { result ≡ again_at (λ k. slice_index_or taken.now k false) (targets arrows) }
 {
     match arrows {
         Arrows::Leaf => false,
@@ -130,7 +130,7 @@ pub(crate) fn again(taken: &[bool], arrows: Arrows) -> bool
 
 // What the name of a node is declared as.
 fn looked(letters: &[u8], names: &[Entry<Binding>], x: Node) -> Option<Binding>
-    ensures { result ≡ looked-up letters.now names.now x }
+    ensures { result ≡ looked_up letters.now names.now x }
 {
     find(letters, names, part(letters, x.a, x.b))
 }
@@ -161,7 +161,7 @@ pub(crate) fn agree(nodes: &[Node], view: View) -> bool
 }
 
 pub(crate) fn shallow(level: u16, nest: u16) -> bool
-    ensures { result ≡ shallow-at level nest }
+    ensures { result ≡ shallow_at level nest }
 {
     level <= LEVEL && nest <= NEST
 }
@@ -180,7 +180,7 @@ pub(crate) fn naming(
     i: usize,
     x: Node,
 ) -> Result<(), Refusal>
-    ensures { result ≡ naming-of letters.now names.now i x }
+    ensures { result ≡ naming_of letters.now names.now i x }
 {
     match x.kind {
         DECLARATION => ensure(

@@ -4,9 +4,9 @@ ghost use Rattle.std.specs.List.{AllByRecursion as All};
 ghost use Rattle.nodes.specs.declared.node.Node.{Node};
 ghost use Rattle.nodes.specs.Limits.{most_nodes, deepest_level, deepest_nest};
 ghost use Rattle.nodes.specs.Nodes.{node_at, view_of, arrows_of, targets, all_lead};
-ghost use Rattle.nodes.specs.Trees.{tree, level as level-of, nest as nest-of, level_by, nest_by};
-ghost use Rattle.deck.specs.Load.{first, shape as shape_of, fitting as fitting-of, said, judged, whole as whole_of};
-ghost use Rattle.deck.specs.Rules.{ensured, names as names-by};
+ghost use Rattle.nodes.specs.Trees.{tree, level as level_of, nest as nest_of, level_by, nest_by};
+ghost use Rattle.deck.specs.Load.{first, shape as shape_of, fitting as fitting_of, said, judged, whole as whole_of};
+ghost use Rattle.deck.specs.Rules.{ensured, names as names_by};
 ghost use Rattle.deck.specs.Tied.{Tied, marked, loose};
 
 use crate::fault::{Fault, Refusal};
@@ -129,7 +129,7 @@ impl Tables {
 
     // What types, level and nest of the node x have against it.
     fn fitting(&self, nodes: &[Node], x: Node) -> Result<(), Refusal>
-        ensures { result ≡ fitting-of nodes.now x (level_by (λ k. slice_index self.now.levels k) (view_of x)) (nest_by (λ k. slice_index self.now.nests k) (view_of x)) }
+        ensures { result ≡ fitting_of nodes.now x (level_by (λ k. slice_index self.now.levels k) (view_of x)) (nest_by (λ k. slice_index self.now.nests k) (view_of x)) }
     {
         let view = x.view();
         ensure(agree(nodes, view), Refusal::Disagreeing)?;
@@ -164,7 +164,7 @@ impl Tables {
         i: usize,
         x: Node,
     ) -> Result<(), Refusal>
-        requires names { names.now ≡ names-by (length names.now) nodes.now }
+        requires names { names.now ≡ names_by (length names.now) nodes.now }
         requires tied { Tied nodes.now i self.now }
         requires here { x ≡ node_at nodes.now i }
         ensures { result ≡ judged letters.now nodes.now (length names.now) i }
@@ -178,8 +178,8 @@ impl Tables {
         requires tied { Tied nodes.now i self.old }
         requires here { x ≡ node_at nodes.now i }
         requires led { all_lead nodes.now i (arrows_of (view_of x)) ≡ true }
-        requires level { level-of (tree nodes.now i) ≤ deepest_level }
-        requires nest { nest-of (tree nodes.now i) ≤ deepest_nest }
+        requires level { level_of (tree nodes.now i) ≤ deepest_level }
+        requires nest { nest_of (tree nodes.now i) ≤ deepest_nest }
         ensures { Tied nodes.now (i + 1) self.new }
     {
         let view = x.view();

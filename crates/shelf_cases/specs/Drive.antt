@@ -1,7 +1,7 @@
 -- What a drive of a shelf answers, and the list that it leaves: open, put a number at i, put a text at j, ask for both.
 use Rattle.std.specs.Prelude.{ℕ, List}
 use Rattle.shelf.specs.Value.{Value}
-use Rattle.shelf.specs.Calls.{open_told, open_list, number_answer, number-put, text_answer, text_put, kind_told, number_told, text_told}
+use Rattle.shelf.specs.Calls.{open_told, open_list, number_answer, number_put, text_answer, text_put, kind_told, number_told, text_told}
 use Rattle.shelf_cases.specs.declared.drive.Seen.{Seen}
 
 pub record Calls : Type 0 where
@@ -16,7 +16,7 @@ module _ (S R : ℕ) (c : Calls) (vs : List Value) where
   opened_list = open_list S c.kinds vs
 
   abbrev pub numbered_list : List Value
-  numbered_list = number-put c.i c.x opened_list
+  numbered_list = number_put c.i c.x opened_list
 
   abbrev pub driven_list : List Value
   driven_list = text_put R c.j c.bytes numbered_list

@@ -26,8 +26,8 @@ pub fn drive<S: Shelf>(
     bytes: &[u8],
     line: &mut [u8; LONGEST],
 ) -> Seen
-    ensures list { S.Shelf.values shelf.new ≡ driven_list (S.Shelf.slots shelf.old) (S.Shelf.capacity shelf.old) (record { kinds = kinds.entry.now; i = i; x = x; j = j; bytes = bytes.now }) (S.Shelf.values shelf.old) }
-    ensures seen { result ≡ seen (S.Shelf.slots shelf.old) (S.Shelf.capacity shelf.old) (record { kinds = kinds.entry.now; i = i; x = x; j = j; bytes = bytes.now }) (S.Shelf.values shelf.old) line.old }
+    ensures list { S.Shelf.values shelf.new ≡ driven_list (S.Shelf.slots shelf.old) (S.Shelf.capacity shelf.old) (record { kinds = kinds.now; i = i; x = x; j = j; bytes = bytes.now }) (S.Shelf.values shelf.old) }
+    ensures seen { result ≡ seen (S.Shelf.slots shelf.old) (S.Shelf.capacity shelf.old) (record { kinds = kinds.now; i = i; x = x; j = j; bytes = bytes.now }) (S.Shelf.values shelf.old) line.old }
     ensures line { line.new ≡ (text_told j (S.Shelf.values shelf.new) line.old).line }
 {
     let opened = shelf.open(kinds);

@@ -15,11 +15,11 @@ pub returns : goal.returns
 returns c =
     let n = c.min-n.result in
     let t = c.args.text.now in
-    let ys = c.copy-from-slice.new.self in
+    let ys = c.copy_from_slice.new.self in
     let line = c.args.line.now in
     let m = c.min-n.ensures in
     let z : n - 0 ≡ n = omega arith in
-    let y : ys ≡ take n t = c.copy-from-slice.ensures.after ∙ ap (λ j. take j t) z in
+    let y : ys ≡ take n t = c.copy_from_slice.ensures.after ∙ ap (λ j. take j t) z in
     let l : length (take n t) ≡ n = simp length-take (omega arith) in
     let cut : take n t ≡ take longest t = ap (λ j. take j t) m ∙ take_min t longest in
     record {

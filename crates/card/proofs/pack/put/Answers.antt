@@ -4,5 +4,5 @@ use Rattle.card.proofs.pack.put.Goals as goal
 
 pub returns : goal.returns
 returns c =
-    let p = put_is c.args.out.now c.args.at _ c.copy-from-slice.new.self c.args.bytes.now (length c.args.bytes.now) c.copy-from-slice.ensures.after (omega arith) refl (omega arith) in
+    let p = put_is c.args.out.now c.args.at _ c.copy_from_slice.new.self c.args.bytes.now (length c.args.bytes.now) c.copy_from_slice.ensures.after (omega arith) refl (omega arith) in
     record { after = p.0; len = p.1 }

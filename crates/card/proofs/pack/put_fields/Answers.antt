@@ -8,5 +8,5 @@ use Rattle.card.proofs.pack.put_fields.Goals as goal
 pub returns : goal.returns
 returns c =
     let l = fields_size c.args.nodes.now in
-    let p = put_is c.args.out.now c.args.at _ c.fill-fields.new.out (flat_map fields_of c.args.nodes.now) (6 * length c.args.nodes.now) c.fill-fields.ensures (omega arith) (omega arith) (omega arith) in
+    let p = put_is c.args.out.now c.args.at _ c.fill_fields.new.out (flat_map fields_of c.args.nodes.now) (6 * length c.args.nodes.now) c.fill_fields.ensures (omega arith) (omega arith) (omega arith) in
     record { after = p.0; len = p.1 }

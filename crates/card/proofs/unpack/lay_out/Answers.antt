@@ -12,5 +12,5 @@ returns c =
     record {
       says = ap (λ k. record { n = k; v = p.v; t = length p.letters.now }) (sym l);
       nodes = laid (nodes_by p.kinds.now p.fields.now) c.fill.new.nodes c.args.nodes.now _ blank c.fill.ensures (omega arith) c.requires.wiped.0;
-      letters = laid p.letters.now c.copy-from-slice.new.self c.args.letters.now _ 0 c.copy-from-slice.ensures.after (omega arith) c.requires.wiped.1;
+      letters = laid p.letters.now c.copy_from_slice.new.self c.args.letters.now _ 0 c.copy_from_slice.ensures.after (omega arith) c.requires.wiped.1;
     }

@@ -7,16 +7,16 @@ use Rattle.shelf.proofs.Values.{short_bytes}
 use Rattle.player.proofs.Evaluate.{conc_leads, text_fits, spell_variable, spell_no_entry, spell_text, spell_conc, spell_conc_none, no_text}
 use Rattle.player.proofs.eval.+spell_at.Goals as goal
 
-pub slice-bounds-append-end-in-Text : goal.slice-bounds-append-end-in-Text
-slice-bounds-append-end-in-Text g t c =
-    let p = text_fits c.args.deck.now c.args.i c.view-at.result c.view-at.ensures c.in-Text.place c.in-Text.size c.in-Text.is in
+pub slice_bounds-append-end-in-Text : goal.slice_bounds-append-end-in-Text
+slice_bounds-append-end-in-Text g t c =
+    let p = text_fits c.args.deck.now c.args.i c.view_at.result c.view_at.ensures c.in-Text.place c.in-Text.size c.in-Text.is in
     let r = p.1 in
     let q = ap length c.letters-letters.ensures in
     omega arith
 
-pub spell-at-mid-requires : goal.spell-at-mid-requires
-spell-at-mid-requires g t c κs within =
-    let p = conc_leads c.args.deck.now c.args.i c.view-at.result c.view-at.ensures c.in-Conc.left c.in-Conc.right c.in-Conc.is in
+pub spell_at-mid-requires : goal.spell_at-mid-requires
+spell_at-mid-requires g t c κs within =
+    let p = conc_leads c.args.deck.now c.args.i c.view_at.result c.view_at.ensures c.in-Conc.left c.in-Conc.right c.in-Conc.is in
     let q : c.in-Conc.left < c.args.i = p.0.lower in
     let n : kind_in (kinds (sheet_of c.args.deck.now)) (view_at (sheet_of c.args.deck.now).nodes c.in-Conc.left) ≡ 2 = p.0.agrees in
     let r : c.args.at ≤ 80 = c.requires.place in
@@ -24,30 +24,30 @@ spell-at-mid-requires g t c κs within =
 
 pub returns-then-mid-gt-LONGEST : goal.returns-then-mid-gt-LONGEST
 returns-then-mid-gt-LONGEST g t c =
-    spell_conc_none c.args.deck.now c.args.i c.view-at.result c.view-at.ensures (g.S.Shelf.values c.args.shelf.now) c.in-Conc.left c.in-Conc.right c.args.line.now c.spell-at-mid.new.line c.args.at c.spell-at-mid.result c.if-mid-gt-LONGEST.true c.in-Conc.is c.spell-at-mid.ensures
+    spell_conc_none c.args.deck.now c.args.i c.view_at.result c.view_at.ensures (g.S.Shelf.values c.args.shelf.now) c.in-Conc.left c.in-Conc.right c.args.line.now c.spell_at-mid.new.line c.args.at c.spell_at-mid.result c.if-mid-gt-LONGEST.true c.in-Conc.is c.spell_at-mid.ensures
 
-pub spell-at-requires : goal.spell-at-requires
-spell-at-requires g t c κs within =
-    let p = conc_leads c.args.deck.now c.args.i c.view-at.result c.view-at.ensures c.in-Conc.left c.in-Conc.right c.in-Conc.is in
+pub spell_at-requires : goal.spell_at-requires
+spell_at-requires g t c κs within =
+    let p = conc_leads c.args.deck.now c.args.i c.view_at.result c.view_at.ensures c.in-Conc.left c.in-Conc.right c.in-Conc.is in
     let q : c.in-Conc.right < c.args.i = p.1.lower in
     let n : kind_in (kinds (sheet_of c.args.deck.now)) (view_at (sheet_of c.args.deck.now).nodes c.in-Conc.right) ≡ 2 = p.1.agrees in
-    let r : c.spell-at-mid.result ≤ 80 = c.if-mid-gt-LONGEST.false in
+    let r : c.spell_at-mid.result ≤ 80 = c.if-mid-gt-LONGEST.false in
     search rules
 
 pub returns-in-Ok : goal.returns-in-Ok
 returns-in-Ok g t c =
-    spell_variable c.args.deck.now c.args.i c.view-at.result c.view-at.ensures (g.S.Shelf.values c.args.shelf.now) _ _ c.in-Variable.number c.in-Ok.n _ c.text.new.line _ c.args.line.now c.append.new.line c.args.at _ (short_bytes (get_or (g.S.Shelf.values c.args.shelf.now) c.in-Variable.number (number 0)) (g.S.Shelf.laws.within c.args.shelf.now c.in-Variable.number)) c.in-Variable.is c.in-Ok.ensures.answer c.text.ensures.line (ap (λ n. take n c.text.new.line) (omega arith)) c.append.ensures
+    spell_variable c.args.deck.now c.args.i c.view_at.result c.view_at.ensures (g.S.Shelf.values c.args.shelf.now) _ _ c.in-Variable.number c.in-Ok.n _ c.text.new.line _ c.args.line.now c.append.new.line c.args.at _ (short_bytes (get_or (g.S.Shelf.values c.args.shelf.now) c.in-Variable.number (number 0)) (g.S.Shelf.laws.within c.args.shelf.now c.in-Variable.number)) c.in-Variable.is c.in-Ok.ensures.answer c.text.ensures.line (ap (λ n. take n c.text.new.line) (omega arith)) c.append.ensures
 
 pub returns-in-Err : goal.returns-in-Err
-returns-in-Err g t c = spell_no_entry c.args.deck.now c.args.i c.view-at.result c.view-at.ensures (g.S.Shelf.values c.args.shelf.now) _ _ c.in-Variable.number _ _ c.args.line.now c.args.at c.requires.place c.in-Variable.is c.in-Err.ensures.answer
+returns-in-Err g t c = spell_no_entry c.args.deck.now c.args.i c.view_at.result c.view_at.ensures (g.S.Shelf.values c.args.shelf.now) _ _ c.in-Variable.number _ _ c.args.line.now c.args.at c.requires.place c.in-Variable.is c.in-Err.ensures.answer
 
 pub returns-in-Text : goal.returns-in-Text
 returns-in-Text g t c =
-    spell_text c.args.deck.now c.args.i c.view-at.result c.view-at.ensures (g.S.Shelf.values c.args.shelf.now) c.in-Text.place c.in-Text.size _ _ c.args.line.now c.append-in-Text.new.line c.args.at _ c.in-Text.is (omega arith) (ap (λ l. take (c.in-Text.place + c.in-Text.size - c.in-Text.place) (drop c.in-Text.place l)) c.letters-letters.ensures) c.append-in-Text.ensures
+    spell_text c.args.deck.now c.args.i c.view_at.result c.view_at.ensures (g.S.Shelf.values c.args.shelf.now) c.in-Text.place c.in-Text.size _ _ c.args.line.now c.append-in-Text.new.line c.args.at _ c.in-Text.is (omega arith) (ap (λ l. take (c.in-Text.place + c.in-Text.size - c.in-Text.place) (drop c.in-Text.place l)) c.letters-letters.ensures) c.append-in-Text.ensures
 
 pub returns-else-mid-gt-LONGEST : goal.returns-else-mid-gt-LONGEST
 returns-else-mid-gt-LONGEST g t c =
-    spell_conc c.args.deck.now c.args.i c.view-at.result c.view-at.ensures (g.S.Shelf.values c.args.shelf.now) c.in-Conc.left c.in-Conc.right c.args.line.now c.spell-at-mid.new.line c.spell-at.new.line c.args.at c.spell-at-mid.result _ c.if-mid-gt-LONGEST.false c.in-Conc.is c.spell-at-mid.ensures c.spell-at.ensures
+    spell_conc c.args.deck.now c.args.i c.view_at.result c.view_at.ensures (g.S.Shelf.values c.args.shelf.now) c.in-Conc.left c.in-Conc.right c.args.line.now c.spell_at-mid.new.line c.spell_at.new.line c.args.at c.spell_at-mid.result _ c.if-mid-gt-LONGEST.false c.in-Conc.is c.spell_at-mid.ensures c.spell_at.ensures
 
 pub returns-in_default : goal.returns-in_default
-returns-in_default g t c = absurd (no_text c.args.deck.now c.args.i c.view-at.result c.view-at.ensures c.in_default.not-Variable c.in_default.not-Text c.in_default.not-Conc c.requires.text)
+returns-in_default g t c = absurd (no_text c.args.deck.now c.args.i c.view_at.result c.view_at.ensures c.in_default.not-Variable c.in_default.not-Text c.in_default.not-Conc c.requires.text)

@@ -4,9 +4,9 @@ use Rattle.player.proofs.eval.append.Goals as goal
 
 pub returns : goal.returns
 returns c =
-    let e : c.copy-from-slice.new.self ≡ c.args.bytes.now = c.copy-from-slice.ensures.after in
-    let u : length c.copy-from-slice.new.self ≡ length c.args.bytes.now = ap length e in
+    let e : c.copy_from_slice.new.self ≡ c.args.bytes.now = c.copy_from_slice.ensures.after in
+    let u : length c.copy_from_slice.new.self ≡ length c.args.bytes.now = ap length e in
     record {
       says = refl;
-      line = λ h. take-put_mid c.args.at _ c.args.line.now c.copy-from-slice.new.self (c.args.at + length c.args.bytes.now) (omega arith) (omega arith) ∙ ap (λ x. take c.args.at c.args.line.now ++ x) e;
+      line = λ h. take-put_mid c.args.at _ c.args.line.now c.copy_from_slice.new.self (c.args.at + length c.args.bytes.now) (omega arith) (omega arith) ∙ ap (λ x. take c.args.at c.args.line.now ++ x) e;
     }

@@ -6,8 +6,8 @@ use Rattle.player.proofs.open.declared.Goals as goal
 pub loop-i-init : goal.loop-i-init
 loop-i-init c = record { few = omega arith; wide = refl; same = refl }
 
-pub overflow-cast-kinds : goal.overflow-cast-kinds
-overflow-cast-kinds c =
+pub overflow_cast-kinds : goal.overflow_cast-kinds
+overflow_cast-kinds c =
     let h : c.loop-i.i < (sheet_of c.args.deck.now).variables = omega arith in
     let k = kind_small c.args.deck.now c.loop-i.i h in
     let e = ap (λ x. x.c) c.node_at.ensures in

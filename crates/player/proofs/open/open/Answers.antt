@@ -6,4 +6,4 @@ pub returns : goal.returns
 returns g c =
     let e = ap (λ n. take n c.declared-kinds.result) (omega arith) ∙ c.declared-kinds.ensures in
     let p = opens_with c.args.deck.now (g.S.Shelf.slots c.args.shelf.now) _ (g.S.Shelf.values c.args.shelf.now) e in
-    record { answer = c.open-with.ensures.answer ∙ p.0; list = c.open-with.ensures.list ∙ p.1; slots-stay = c.open-with.ensures.slots-stay; capacity-stays = c.open-with.ensures.capacity-stays }
+    record { answer = c.open_with.ensures.answer ∙ p.0; list = c.open_with.ensures.list ∙ p.1; slots_stay = c.open_with.ensures.slots_stay; capacity_stays = c.open_with.ensures.capacity_stays }

@@ -16,15 +16,15 @@ loop-i-init g c =
 pub loop-i-preserved : goal.loop-i-preserved
 loop-i-preserved g c =
     let a : Answer = answer (enough_slots (g.S.Shelf.slots c.loop-i.player.shelf) (sheet_of (deck_of c.loop-i.player))) (sheet_of (deck_of c.loop-i.player)) (g.S.Shelf.capacity c.loop-i.player.shelf) (get_or c.args.calls.now c.loop-i.i (Play 0)) (state_of g.S.Shelf.values c.loop-i.player) in (
-      c.perform-one.ensures.deck ∙ c.loop-i.invariant.0,
-      c.perform-one.ensures.capacity ∙ c.loop-i.invariant.1,
-      c.perform-one.ensures.slots ∙ c.loop-i.invariant.2,
+      c.perform_one.ensures.deck ∙ c.loop-i.invariant.0,
+      c.perform_one.ensures.capacity ∙ c.loop-i.invariant.1,
+      c.perform_one.ensures.slots ∙ c.loop-i.invariant.2,
       performing_more (enough_slots (g.S.Shelf.slots c.start-player.result.shelf) (sheet_of (deck_of c.start-player.result))) (sheet_of (deck_of c.start-player.result)) (g.S.Shelf.capacity c.start-player.result.shelf)
-          c.args.calls.now c.loop-i.i (state_of g.S.Shelf.values c.start-player.result) (state_of g.S.Shelf.values c.loop-i.player) (state_of g.S.Shelf.values c.perform-one.new.player) c.args.answers.now c.loop-i.answers c.perform-one.new.answers (Play 0) a
+          c.args.calls.now c.loop-i.i (state_of g.S.Shelf.values c.start-player.result) (state_of g.S.Shelf.values c.loop-i.player) (state_of g.S.Shelf.values c.perform_one.new.player) c.args.answers.now c.loop-i.answers c.perform_one.new.answers (Play 0) a
           c.loop-i.invariant.3 c.loop-i-test.true c.if-i-answers.true
-          (after_begun (deck_of c.loop-i.player) (deck_of c.start-player.result) (g.S.Shelf.capacity c.loop-i.player.shelf) (g.S.Shelf.capacity c.start-player.result.shelf) (g.S.Shelf.slots c.loop-i.player.shelf) (g.S.Shelf.slots c.start-player.result.shelf) c.loop-i.invariant.0 c.loop-i.invariant.1 c.loop-i.invariant.2 (get_or c.args.calls.now c.loop-i.i (Play 0)) (state_of g.S.Shelf.values c.loop-i.player) _ c.perform-one.ensures.state)
+          (after_begun (deck_of c.loop-i.player) (deck_of c.start-player.result) (g.S.Shelf.capacity c.loop-i.player.shelf) (g.S.Shelf.capacity c.start-player.result.shelf) (g.S.Shelf.slots c.loop-i.player.shelf) (g.S.Shelf.slots c.start-player.result.shelf) c.loop-i.invariant.0 c.loop-i.invariant.1 c.loop-i.invariant.2 (get_or c.args.calls.now c.loop-i.i (Play 0)) (state_of g.S.Shelf.values c.loop-i.player) _ c.perform_one.ensures.state)
           (answer_begun (deck_of c.loop-i.player) (deck_of c.start-player.result) (g.S.Shelf.capacity c.loop-i.player.shelf) (g.S.Shelf.capacity c.start-player.result.shelf) (g.S.Shelf.slots c.loop-i.player.shelf) (g.S.Shelf.slots c.start-player.result.shelf) c.loop-i.invariant.0 c.loop-i.invariant.1 c.loop-i.invariant.2 (get_or c.args.calls.now c.loop-i.i (Play 0)) (state_of g.S.Shelf.values c.loop-i.player) a refl)
-          c.perform-one.ensures.answers,
+          c.perform_one.ensures.answers,
     )
 
 out : (g : Rattle.player.proofs.perform.perform.Given.Over) (c : goal.After-eject g) → (length c.args.calls.now ≤ c.loop-i.i) ⊎ (length c.loop-i.answers ≤ c.loop-i.i)

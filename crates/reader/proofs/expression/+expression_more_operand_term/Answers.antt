@@ -24,71 +24,71 @@ expression-returns r c =
           (c.more.ensures.is first.tree c.args.count c.args.out.now first.count first.nodes) (λ g. g) (λ g. first.goes_on (start, g)) (λ g x v. refl);
     }
 
-pub more-returns-in_err-start : goal.more-returns-in_err-start
-more-returns-in_err-start r c =
+pub more-returns-in_err-start-in-Some : goal.more-returns-in_err-start-in-Some
+more-returns-in_err-start-in-Some r c =
     let t = c.args.text.now in
     let w = c.args.left.token in
     let j = joint_reads t (token w) c.in-Some.kind c.in-Some.ensures in
     record {
       on = search rules;
-      is = λ e n xs i k. refused_in _ _ _ _ _ _ _ _ _ c.in_err-start.field-0.0 (search rules)
-          (λ g. j.goes_on e g ∙ ap (at t (term (j.before e) g)) (behind_joint t (meant w.word) w.place w.next c.in-Some.kind c.in-Some.ensures ∙ sym c.in_err-start.ensures.is));
+      is = λ e n xs i k. refused_in _ _ _ _ _ _ _ _ _ c.in_err-start-in-Some.field-0.0 (search rules)
+          (λ g. j.goes_on e g ∙ ap (at t (term (j.before e) g)) (behind_joint t (meant w.word) w.place w.next c.in-Some.kind c.in-Some.ensures ∙ sym c.in_err-start-in-Some.ensures.is));
     }
 
-pub more-returns-in_err-right : goal.more-returns-in_err-right
-more-returns-in_err-right r c =
+pub more-returns-in_err-right-in-Some : goal.more-returns-in_err-right-in-Some
+more-returns-in_err-right-in-Some r c =
     let t = c.args.text.now in
     let w = c.args.left.token in
     let j = joint_reads t (token w) c.in-Some.kind c.in-Some.ensures in
     record {
       on = search rules;
-      is = λ e n xs i k. refused_in _ _ _ _ _ _ _ _ _ c.in_err-right.field-0.0 (search rules)
-          (λ g. j.goes_on e g ∙ (ap (at t (term (j.before e) g)) (behind_joint t (meant w.word) w.place w.next c.in-Some.kind c.in-Some.ensures ∙ sym c.in_ok-start.ensures.is) ∙ c.in_err-right.ensures.is (j.before e, g)));
+      is = λ e n xs i k. refused_in _ _ _ _ _ _ _ _ _ c.in_err-right-in-Some.field-0.0 (search rules)
+          (λ g. j.goes_on e g ∙ (ap (at t (term (j.before e) g)) (behind_joint t (meant w.word) w.place w.next c.in-Some.kind c.in-Some.ensures ∙ sym c.in_ok-start-in-Some.ensures.is) ∙ c.in_err-right-in-Some.ensures.is (j.before e, g)));
     }
 
-pub more-returns-in_ok-right : goal.more-returns-in_ok-right
-more-returns-in_ok-right r c =
+pub more-returns-in_ok-right-in-Some : goal.more-returns-in_ok-right-in-Some
+more-returns-in_ok-right-in-Some r c =
     let t = c.args.text.now in
     let w = c.args.left.token in
     let f = number_in t c.args.names.now in
     let j = joint_reads t (token w) c.in-Some.kind c.in-Some.ensures in
-    let right = c.in_ok-right.ensures.is in
+    let right = c.in_ok-right-in-Some.ensures.is in
     record {
       on = search rules;
       is = λ e n xs i k.
           let whole = with (j.before e) right.tree in
-          let last = node c.in-Some.kind (c.args.left.count - 1) (c.in_ok-right.right.count - 1) 0 in
+          let last = node c.in-Some.kind (c.args.left.count - 1) (c.in_ok-right-in-Some.right.count - 1) 0 in
           let sized = j.sized e right.tree in
-          let count : c.in_ok-right.right.count + 1 ≡ n + size whole = omega (arith, right.count) in
+          let count : c.in_ok-right-in-Some.right.count + 1 ≡ n + size whole = omega (arith, right.count) in
           let a : c.args.left.count - 1 ≡ n + size e - 1 = omega arith in
-          let b : c.in_ok-right.right.count - 1 ≡ n + size e + size right.tree - 1 = omega (arith, right.count) in
+          let b : c.in_ok-right-in-Some.right.count - 1 ≡ n + size e + size right.tree - 1 = omega (arith, right.count) in
           let nodes : c.put.new.out ≡ write xs n (lay f n whole) =
-          c.put.ensures ∙ ap (λ (b : Node). write c.operand.new.out c.in_ok-right.right.count (b ∷ [])) c.above.ensures
-          ∙ (ap (λ ys. write ys c.in_ok-right.right.count (last ∷ [])) (right.nodes ∙ ap (λ ys. write ys c.args.left.count (lay f c.args.left.count right.tree)) k)
-          ∙ (write_two f xs n e right.tree last c.args.left.count c.in_ok-right.right.count i right.count
-          ∙ (ap (λ m. write xs n (lay f n e ++ (lay f (n + size e) right.tree ++ (node c.in-Some.kind m (c.in_ok-right.right.count - 1) 0 ∷ [])))) a
+          c.put.ensures ∙ ap (λ (b : Node). write c.operand.new.out c.in_ok-right-in-Some.right.count (b ∷ [])) c.above.ensures
+          ∙ (ap (λ ys. write ys c.in_ok-right-in-Some.right.count (last ∷ [])) (right.nodes ∙ ap (λ ys. write ys c.args.left.count (lay f c.args.left.count right.tree)) k)
+          ∙ (write_two f xs n e right.tree last c.args.left.count c.in_ok-right-in-Some.right.count i right.count
+          ∙ (ap (λ m. write xs n (lay f n e ++ (lay f (n + size e) right.tree ++ (node c.in-Some.kind m (c.in_ok-right-in-Some.right.count - 1) 0 ∷ [])))) a
           ∙ (ap (λ m. write xs n (lay f n e ++ (lay f (n + size e) right.tree ++ (node c.in-Some.kind (n + size e - 1) m 0 ∷ [])))) b
           ∙ ap (write xs n) (sym (j.laid f n e right.tree)))))) in
-          ends_by _ _ (λ g. tail g whole) leaving t (token w) (token c.in_ok-right.right.token) f n xs _ c.more.result
+          ends_by _ _ (λ g. tail g whole) leaving t (token w) (token c.in_ok-right-in-Some.right.token) f n xs _ c.more.result
           (c.more.ensures.is whole n xs count nodes) (λ g. g)
-          (λ g. j.goes_on e g ∙ (ap (at t (term (j.before e) g)) (behind_joint t (meant w.word) w.place w.next c.in-Some.kind c.in-Some.ensures ∙ sym c.in_ok-start.ensures.is) ∙ right.goes_on (j.before e, g)))
+          (λ g. j.goes_on e g ∙ (ap (at t (term (j.before e) g)) (behind_joint t (meant w.word) w.place w.next c.in-Some.kind c.in-Some.ensures ∙ sym c.in_ok-start-in-Some.ensures.is) ∙ right.goes_on (j.before e, g)))
           (λ g x v. refl);
     }
 
-pub term-returns-in_err-next : goal.term-returns-in_err-next
-term-returns-in_err-next r c =
+pub term-returns-in_err-next-in-Some : goal.term-returns-in_err-next-in-Some
+term-returns-in_err-next-in-Some r c =
     let t = c.args.text.now in
     let w = c.args.token in
     let f = number_in t c.args.names.now in
     let l = leaf_reads t f (token w) c.in-Some.node c.in-Some.ensures in
     record {
       on = search rules;
-      is = refused_in _ _ _ _ _ _ _ _ _ c.in_err-next.field-0.0 (search rules)
-          (λ k. l.goes_on k.0 k.1 ∙ ap (at t (tail k.1 (with k.0 l.tree))) (behind_leaf t f (meant w.word) w.place w.next c.in-Some.node c.in-Some.ensures ∙ sym c.in_err-next.ensures.is));
+      is = refused_in _ _ _ _ _ _ _ _ _ c.in_err-next-in-Some.field-0.0 (search rules)
+          (λ k. l.goes_on k.0 k.1 ∙ ap (at t (tail k.1 (with k.0 l.tree))) (behind_leaf t f (meant w.word) w.place w.next c.in-Some.node c.in-Some.ensures ∙ sym c.in_err-next-in-Some.ensures.is));
     }
 
-pub term-returns-in_ok-next : goal.term-returns-in_ok-next
-term-returns-in_ok-next r c =
+pub term-returns-in_ok-next-in-Some : goal.term-returns-in_ok-next-in-Some
+term-returns-in_ok-next-in-Some r c =
     let t = c.args.text.now in
     let w = c.args.token in
     let f = number_in t c.args.names.now in
@@ -99,54 +99,54 @@ term-returns-in_ok-next r c =
         tree = l.tree;
         count = omega (arith, l.one);
         nodes = c.put.ensures ∙ ap (write c.args.out.now c.args.count) (sym (l.laid c.args.count));
-        goes_on = λ k. l.goes_on k.0 k.1 ∙ ap (at t (tail k.1 (with k.0 l.tree))) (behind_leaf t f (meant w.word) w.place w.next c.in-Some.node c.in-Some.ensures ∙ sym c.in_ok-next.ensures.is);
+        goes_on = λ k. l.goes_on k.0 k.1 ∙ ap (at t (tail k.1 (with k.0 l.tree))) (behind_leaf t f (meant w.word) w.place w.next c.in-Some.node c.in-Some.ensures ∙ sym c.in_ok-next-in-Some.ensures.is);
       };
     }
 
-pub term-returns-in_err-start : goal.term-returns-in_err-start
-term-returns-in_err-start r c =
+pub term-returns-in_err-start-in-None : goal.term-returns-in_err-start-in-None
+term-returns-in_err-start-in-None r c =
     let t = c.args.text.now in
     let f = number_in t c.args.names.now in
     record {
       on = search rules;
-      is = refused_in _ _ _ _ _ _ _ _ _ c.in_err-start.field-0.0 (search rules)
-          (λ k. group_reads t f (token c.args.token) c.in-None.ensures k.0 k.1 ∙ ap (at t (term start (group k.0 k.1))) (sym c.in_err-start.ensures.is));
+      is = refused_in _ _ _ _ _ _ _ _ _ c.in_err-start-in-None.field-0.0 (search rules)
+          (λ k. group_reads t f (token c.args.token) c.in-None.ensures k.0 k.1 ∙ ap (at t (term start (group k.0 k.1))) (sym c.in_err-start-in-None.ensures.is));
     }
 
-pub term-returns-in_err-inner : goal.term-returns-in_err-inner
-term-returns-in_err-inner r c =
+pub term-returns-in_err-inner-in-None : goal.term-returns-in_err-inner-in-None
+term-returns-in_err-inner-in-None r c =
     let t = c.args.text.now in
     let f = number_in t c.args.names.now in
     record {
       on = search rules;
-      is = refused_in _ _ _ _ _ _ _ _ _ c.in_err-inner.field-0.0 (search rules)
-          (λ k. group_reads t f (token c.args.token) c.in-None.ensures k.0 k.1 ∙ (ap (at t (term start (group k.0 k.1))) (sym c.in_ok-start.ensures.is) ∙ c.in_err-inner.ensures.is (group k.0 k.1)));
+      is = refused_in _ _ _ _ _ _ _ _ _ c.in_err-inner-in-None.field-0.0 (search rules)
+          (λ k. group_reads t f (token c.args.token) c.in-None.ensures k.0 k.1 ∙ (ap (at t (term start (group k.0 k.1))) (sym c.in_ok-start-in-None.ensures.is) ∙ c.in_err-inner-in-None.ensures.is (group k.0 k.1)));
     }
 
-pub term-returns-in_err-next-2 : goal.term-returns-in_err-next-2
-term-returns-in_err-next-2 r c =
+pub term-returns-in_err-next-in-None : goal.term-returns-in_err-next-in-None
+term-returns-in_err-next-in-None r c =
     let t = c.args.text.now in
     let f = number_in t c.args.names.now in
-    let inner = c.in_ok-inner.ensures.is in
+    let inner = c.in_ok-inner-in-None.ensures.is in
     record {
       on = search rules;
-      is = refused_in _ _ _ _ _ _ _ _ _ c.in_err-next-2.field-0.0 (search rules)
-          (λ k. group_reads t f (token c.args.token) c.in-None.ensures k.0 k.1 ∙ (ap (at t (term start (group k.0 k.1))) (sym c.in_ok-start.ensures.is) ∙ (inner.goes_on (group k.0 k.1)
-          ∙ (pass t (close_word k.0 k.1 inner.tree) (token c.in_ok-inner.inner.token) ∙ ap (at t (tail k.1 (with k.0 inner.tree))) (sym c.in_err-next-2.ensures.is)))));
+      is = refused_in _ _ _ _ _ _ _ _ _ c.in_err-next-in-None.field-0.0 (search rules)
+          (λ k. group_reads t f (token c.args.token) c.in-None.ensures k.0 k.1 ∙ (ap (at t (term start (group k.0 k.1))) (sym c.in_ok-start-in-None.ensures.is) ∙ (inner.goes_on (group k.0 k.1)
+          ∙ (pass t (close_word k.0 k.1 inner.tree) (token c.in_ok-inner-in-None.inner.token) ∙ ap (at t (tail k.1 (with k.0 inner.tree))) (sym c.in_err-next-in-None.ensures.is)))));
     }
 
-pub term-returns-in_ok-next-2 : goal.term-returns-in_ok-next-2
-term-returns-in_ok-next-2 r c =
+pub term-returns-in_ok-next-in-None : goal.term-returns-in_ok-next-in-None
+term-returns-in_ok-next-in-None r c =
     let t = c.args.text.now in
     let f = number_in t c.args.names.now in
-    let inner = c.in_ok-inner.ensures.is in
+    let inner = c.in_ok-inner-in-None.ensures.is in
     record {
       on = search rules;
       is = record {
         tree = inner.tree;
         count = inner.count;
         nodes = inner.nodes;
-        goes_on = λ k. group_reads t f (token c.args.token) c.in-None.ensures k.0 k.1 ∙ (ap (at t (term start (group k.0 k.1))) (sym c.in_ok-start.ensures.is) ∙ (inner.goes_on (group k.0 k.1)
-            ∙ (pass t (close_word k.0 k.1 inner.tree) (token c.in_ok-inner.inner.token) ∙ ap (at t (tail k.1 (with k.0 inner.tree))) (sym c.in_ok-next-2.ensures.is))));
+        goes_on = λ k. group_reads t f (token c.args.token) c.in-None.ensures k.0 k.1 ∙ (ap (at t (term start (group k.0 k.1))) (sym c.in_ok-start-in-None.ensures.is) ∙ (inner.goes_on (group k.0 k.1)
+            ∙ (pass t (close_word k.0 k.1 inner.tree) (token c.in_ok-inner-in-None.inner.token) ∙ ap (at t (tail k.1 (with k.0 inner.tree))) (sym c.in_ok-next-in-None.ensures.is))));
       };
     }

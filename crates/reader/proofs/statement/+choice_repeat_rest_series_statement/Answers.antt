@@ -280,29 +280,29 @@ series-returns-in-Other r c =
       is = record { tree = none; count = omega arith; nodes = c.put.ensures; goes_on = nothing_reads t (token c.args.token) (sym c.in-Other.ensures) };
     }
 
-pub series-returns-in_err-others : goal.series-returns-in_err-others
-series-returns-in_err-others r c =
+pub series-returns-in_err-others-in_default : goal.series-returns-in_err-others-in_default
+series-returns-in_err-others-in_default r c =
     let t = c.args.text.now in
-    let first = c.in_ok-first.ensures.is in
+    let first = c.in_ok-first-in_default.ensures.is in
     record {
       on = search rules;
-      is = refused_in _ _ _ _ _ _ _ _ _ c.in_err-others.field-0.0 (search rules) (λ o. first.goes_on o ∙ c.in_err-others.ensures.is first.tree o);
+      is = refused_in _ _ _ _ _ _ _ _ _ c.in_err-others-in_default.field-0.0 (search rules) (λ o. first.goes_on o ∙ c.in_err-others-in_default.ensures.is first.tree o);
     }
 
-pub series-returns-in_ok-others : goal.series-returns-in_ok-others
-series-returns-in_ok-others r c =
+pub series-returns-in_ok-others-in_default : goal.series-returns-in_ok-others-in_default
+series-returns-in_ok-others-in_default r c =
     let t = c.args.text.now in
     let f = number_in t c.args.names.now in
-    let first = c.in_ok-first.ensures.is in
-    let others = c.in_ok-others.ensures.is first.tree in
+    let first = c.in_ok-first-in_default.ensures.is in
+    let others = c.in_ok-others-in_default.ensures.is first.tree in
     record {
       on = search rules;
       is = record {
         tree = more first.tree others.tree;
         count = omega (arith, first.count, others.count);
-        nodes = laid_two f c.args.out.now c.put-in_default.new.out c.args.count first.tree others.tree 10 c.in_ok-first.first.count c.in_ok-others.others.count first.count others.count
-            ((c.put-in_default.ensures ∙ ap (λ (b : Node). write c.rest.new.out c.in_ok-others.others.count (b ∷ [])) c.above.ensures) ∙ ap (λ (ys : List Node). write ys c.in_ok-others.others.count (node 10 (c.in_ok-first.first.count - 1) (c.in_ok-others.others.count - 1) 0 ∷ []))
-            (others.nodes ∙ ap (λ (ys : List Node). write ys c.in_ok-first.first.count (lay f c.in_ok-first.first.count others.tree)) first.nodes));
+        nodes = laid_two f c.args.out.now c.put-in_default.new.out c.args.count first.tree others.tree 10 c.in_ok-first-in_default.first.count c.in_ok-others-in_default.others.count first.count others.count
+            ((c.put-in_default.ensures ∙ ap (λ (b : Node). write c.rest.new.out c.in_ok-others-in_default.others.count (b ∷ [])) c.above.ensures) ∙ ap (λ (ys : List Node). write ys c.in_ok-others-in_default.others.count (node 10 (c.in_ok-first-in_default.first.count - 1) (c.in_ok-others-in_default.others.count - 1) 0 ∷ []))
+            (others.nodes ∙ ap (λ (ys : List Node). write ys c.in_ok-first-in_default.first.count (lay f c.in_ok-first-in_default.first.count others.tree)) first.nodes));
         goes_on = λ o. first.goes_on o ∙ others.goes_on o;
       };
     }

@@ -4,8 +4,8 @@ use Rattle.deck.proofs.Accepted.{faultless, fits}
 use Rattle.deck.proofs.Declarations.{small_kind}
 use Rattle.deck.proofs.deck.Deck.kind_at.Goals as goal
 
-pub overflow-cast-result : goal.overflow-cast-result
-overflow-cast-result c =
+pub overflow_cast-result : goal.overflow_cast-result
+overflow_cast-result c =
     let d = c.args.self.now in
     let s = fits (take d.size d.letters) d.nodes d.count d.declared d.loaded in
     let h : c.args.i < d.count = omega arith in

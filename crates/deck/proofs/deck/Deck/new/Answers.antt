@@ -2,6 +2,6 @@ use Rattle.std.proofs.Common.{refl, rules}
 use Rattle.nodes.specs.Trees.{decode}
 use Rattle.deck.proofs.deck.Deck.new.Goals as goal
 
-pub invariant-of-result : goal.invariant-of-result
+pub invariant_of-result : goal.invariant_of-result
 unfolding decode
-invariant-of-result c = (search rules, (refl, tt))
+invariant_of-result c = record { within = search rules; loaded = refl }

@@ -5,14 +5,14 @@ use Rattle.shelf.specs.Entries.{extent}
 use Rattle.packed.proofs.Means.{list_at, parts, text_short}
 use Rattle.packed.proofs.packed.Packed.held.Goals as goal
 
-pub overflow-add-result : goal.overflow-add-result
-overflow-add-result c =
+pub overflow_add-result : goal.overflow_add-result
+overflow_add-result c =
     let p = parts c.args.self.now c.args.i c.requires in
     let e = ap extent c.in-Text.is in
     omega arith
 
-pub slice-bounds-result-end : goal.slice-bounds-result-end
-slice-bounds-result-end c =
+pub slice_bounds-result-end : goal.slice_bounds-result-end
+slice_bounds-result-end c =
     let p = parts c.args.self.now c.args.i c.requires in
     let e = ap extent c.in-Text.is in
     omega arith

@@ -2,8 +2,8 @@ use Rattle.std.proofs.Common.{arith}
 use Rattle.packed.proofs.Means.{parts, total_put}
 use Rattle.packed.proofs.packed.Packed.total_with.Goals as goal
 
-pub overflow-sub-result : goal.overflow-sub-result
-overflow-sub-result c = omega (arith, parts c.args.self.now c.args.i c.requires.inside)
+pub overflow_sub-result : goal.overflow_sub-result
+overflow_sub-result c = omega (arith, parts c.args.self.now c.args.i c.requires.inside)
 
 pub returns : goal.returns
 returns c =

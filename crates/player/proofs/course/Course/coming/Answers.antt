@@ -3,4 +3,4 @@ use Rattle.player.proofs.Front.{comes}
 use Rattle.player.proofs.course.Course.coming.Goals as goal
 
 pub returns : goal.returns
-returns c = comes c.args.self.now c.requires (omega arith) c.node-at-series.result c.node-at-series.ensures c.view-at.result c.view-at.ensures
+returns c = comes c.args.self.now c.requires (omega arith) c.node_at-series.result c.node_at-series.ensures c.view_at.result c.view_at.ensures

@@ -14,9 +14,9 @@ returns c =
       full = λ h. absurd (omega arith);
     }
 
-pub returns-then-node-at-eq-SERIES : goal.returns-then-node-at-eq-SERIES
-returns-then-node-at-eq-SERIES c =
-    let k = ap (λ x. x.kind) (sym c.node_at.ensures) ∙ c.if-node-at-eq-SERIES.true in
+pub returns-then-node_at-eq-SERIES : goal.returns-then-node_at-eq-SERIES
+returns-then-node_at-eq-SERIES c =
+    let k = ap (λ x. x.kind) (sym c.node_at.ensures) ∙ c.if-node_at-eq-SERIES.true in
     record {
       few = c.loop-r.invariant.few;
       list = settling_stay (sheet_of c.args.deck.now) c.args.todo.now c.args.len (omega arith) c.loop-r.r c.loop-r.invariant c.loop-r-test.true k;
@@ -25,4 +25,4 @@ returns-then-node-at-eq-SERIES c =
 
 pub loop-r-preserved : goal.loop-r-preserved
 loop-r-preserved c =
-    settling_drop (sheet_of c.args.deck.now) c.args.todo.now c.args.len (omega arith) c.loop-r.r c.loop-r.invariant c.loop-r-test.true (λ k. c.if-node-at-eq-SERIES.false (ap (λ x. x.kind) c.node_at.ensures ∙ k))
+    settling_drop (sheet_of c.args.deck.now) c.args.todo.now c.args.len (omega arith) c.loop-r.r c.loop-r.invariant c.loop-r-test.true (λ k. c.if-node_at-eq-SERIES.false (ap (λ x. x.kind) c.node_at.ensures ∙ k))

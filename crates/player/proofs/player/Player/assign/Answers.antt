@@ -10,16 +10,16 @@ pub returns-in-Ok-store : goal.returns-in-Ok-store
 returns-in-Ok-store g c =
     record {
       deck = c.go_on.ensures.deck;
-      capacity = c.store.ensures.capacity-stays;
-      slots = c.store.ensures.slots-stay;
-      state = go_assign c.args.self.now.course c.requires.ready c.args.coming c.requires.comes (g.S.Shelf.capacity c.args.self.now.shelf) (g.S.Shelf.values c.args.self.now.shelf) c.args.target c.args.value c.requires.is _ (ap (λ x. x.c) c.node-at-to.ensures) c.in-Ok.value c.evaluate.new.line c.in-Ok.ensures c.go_on.new.self _ c.store.ensures.list _ c.in-Ok-store.ensures.answer c.go_on.ensures.moved;
+      capacity = c.store.ensures.capacity_stays;
+      slots = c.store.ensures.slots_stay;
+      state = go_assign c.args.self.now.course c.requires.ready c.args.coming c.requires.comes (g.S.Shelf.capacity c.args.self.now.shelf) (g.S.Shelf.values c.args.self.now.shelf) c.args.target c.args.value c.requires.is _ (ap (λ x. x.c) c.node_at-to.ensures) c.in-Ok.value c.evaluate.new.line c.in-Ok.ensures c.go_on.new.self _ c.store.ensures.list _ c.in-Ok-store.ensures.answer c.go_on.ensures.moved;
     }
 
 pub returns-in-Err-store : goal.returns-in-Err-store
 returns-in-Err-store g c =
     record {
       deck = c.stop-in-Err-store.ensures.deck;
-      capacity = c.store.ensures.capacity-stays;
-      slots = c.store.ensures.slots-stay;
-      state = crowd_assign c.args.self.now.course c.requires.ready c.args.coming c.requires.comes (g.S.Shelf.capacity c.args.self.now.shelf) (g.S.Shelf.values c.args.self.now.shelf) c.args.target c.args.value c.requires.is _ (ap (λ x. x.c) c.node-at-to.ensures) c.in-Ok.value c.evaluate.new.line c.in-Ok.ensures c.stop-in-Err-store.new.self _ c.store.ensures.list c.in-Err-store.why c.in-Err-store.ensures.answer c.stop-in-Err-store.ensures.todo c.stop-in-Err-store.ensures.status;
+      capacity = c.store.ensures.capacity_stays;
+      slots = c.store.ensures.slots_stay;
+      state = crowd_assign c.args.self.now.course c.requires.ready c.args.coming c.requires.comes (g.S.Shelf.capacity c.args.self.now.shelf) (g.S.Shelf.values c.args.self.now.shelf) c.args.target c.args.value c.requires.is _ (ap (λ x. x.c) c.node_at-to.ensures) c.in-Ok.value c.evaluate.new.line c.in-Ok.ensures c.stop-in-Err-store.new.self _ c.store.ensures.list c.in-Err-store.why c.in-Err-store.ensures.answer c.stop-in-Err-store.ensures.todo c.stop-in-Err-store.ensures.status;
     }

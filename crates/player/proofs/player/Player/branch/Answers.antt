@@ -3,8 +3,8 @@ use Rattle.deck.specs.Sheets.{sheet_of}
 use Rattle.player.proofs.Moves.{branch_reaches, stop_if, go_if}
 use Rattle.player.proofs.player.Player.branch.Goals as goal
 
-pub amount-at-requires : goal.amount-at-requires
-amount-at-requires g c = λ e. let p = (c.requires.comes.branches c.args.test c.args.then c.args.otherwise c.requires.is).0 in omega arith
+pub amount_at-requires : goal.amount_at-requires
+amount_at-requires g c = λ e. let p = (c.requires.comes.branches c.args.test c.args.then c.args.otherwise c.requires.is).0 in omega arith
 
 pub enter-requires : goal.enter-requires
 enter-requires g c =

@@ -2,8 +2,8 @@ use Rattle.std.proofs.Common.{refl, arith}
 use Rattle.player.proofs.Moves.{stop_while, past_while, into_while}
 use Rattle.player.proofs.player.Player.turn.Goals as goal
 
-pub amount-at-requires : goal.amount-at-requires
-amount-at-requires g c = λ e. let p = (c.requires.comes.body c.args.test c.args.body c.requires.is).0 in omega arith
+pub amount_at-requires : goal.amount_at-requires
+amount_at-requires g c = λ e. let p = (c.requires.comes.body c.args.test c.args.body c.requires.is).0 in omega arith
 
 pub again-requires : goal.again-requires
 again-requires g c =

@@ -5,13 +5,13 @@ use Rattle.shelf.specs.Value.{text}
 use Rattle.rows.proofs.Means.{list_at, row_fits, text_short}
 use Rattle.rows.proofs.rows.Rows.held.Goals as goal
 
-pub overflow-add-result : goal.overflow-add-result
-overflow-add-result c =
+pub overflow_add-result : goal.overflow_add-result
+overflow_add-result c =
     let s = c.args.self.now in
     omega (arith, text_short s c.args.i _ c.in-Text.is, row_fits s c.args.i c.requires)
 
-pub slice-bounds-result-end : goal.slice-bounds-result-end
-slice-bounds-result-end c =
+pub slice_bounds-result-end : goal.slice_bounds-result-end
+slice_bounds-result-end c =
     let s = c.args.self.now in
     omega (arith, text_short s c.args.i _ c.in-Text.is, row_fits s c.args.i c.requires)
 

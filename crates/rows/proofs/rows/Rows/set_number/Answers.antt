@@ -8,12 +8,17 @@ use Rattle.shelf.proofs.Entries.{within_set}
 use Rattle.rows.proofs.Means.{put_entry}
 use Rattle.rows.proofs.rows.Rows.set_number.Goals as goal
 
-pub invariant-of-self : goal.invariant-of-self
-invariant-of-self c =
+pub invariant_of-self : goal.invariant_of-self
+invariant_of-self c =
     let s = c.args.self.now in
     let e = Number c.args.x in
     let w : too_large e ≡ false = le-ltb largest c.args.x (omega arith) in
-    (length-set s.entries c.args.i e ∙ s.sized, (s.few, (s.rows, (within_set s.entries c.args.i e s.within w, tt))))
+    record {
+      sized = length-set s.entries c.args.i e ∙ s.sized;
+      few = s.few;
+      rows = s.rows;
+      within = within_set s.entries c.args.i e s.within w;
+    }
 
 pub returns : goal.returns
 returns c =

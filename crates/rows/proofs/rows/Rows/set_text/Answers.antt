@@ -9,31 +9,36 @@ use Rattle.shelf.proofs.Entries.{within_set}
 use Rattle.rows.proofs.Means.{put_text, row_fits, texts_fit}
 use Rattle.rows.proofs.rows.Rows.set_text.Goals as goal
 
-pub overflow-add-at : goal.overflow-add-at
-overflow-add-at c = omega (arith, row_fits c.args.self.now c.args.i c.requires.inside)
+pub overflow_add-at : goal.overflow_add-at
+overflow_add-at c = omega (arith, row_fits c.args.self.now c.args.i c.requires.inside)
 
-pub slice-bounds-copy-from-slice-end : goal.slice-bounds-copy-from-slice-end
-slice-bounds-copy-from-slice-end c = omega (arith, row_fits c.args.self.now c.args.i c.requires.inside)
+pub slice_bounds-copy_from_slice-end : goal.slice_bounds-copy_from_slice-end
+slice_bounds-copy_from_slice-end c = omega (arith, row_fits c.args.self.now c.args.i c.requires.inside)
 
-pub invariant-of-self : goal.invariant-of-self
-invariant-of-self c =
+pub invariant_of-self : goal.invariant_of-self
+invariant_of-self c =
     let s = c.args.self.now in
     let e = Text (length c.args.bytes.now) in
     let w : too_large e ≡ false = le-ltb longest (length c.args.bytes.now) c.requires.short in
-    (length-set s.entries c.args.i e ∙ s.sized, (s.few, (s.rows, (within_set s.entries c.args.i e s.within w, tt))))
+    record {
+      sized = length-set s.entries c.args.i e ∙ s.sized;
+      few = s.few;
+      rows = s.rows;
+      within = within_set s.entries c.args.i e s.within w;
+    }
 
 pub returns : goal.returns
 returns c =
     let s = c.args.self.now in
     let i = c.args.i in
     let b = c.args.bytes.now in
-    let ys = c.copy-from-slice.new.self in
+    let ys = c.copy_from_slice.new.self in
     let j = longest * i + length b in
-    let m = c.deref-mut.result.now in
-    let f = with_items_is s.memory (put_mid (longest * i) (j - longest * i) m ys) (same_len_mid (longest * i) (j - longest * i) m ys c.copy-from-slice.ensures.len ∙ c.deref-mut.ensures.len) in
-    let w = f ∙ ap (λ z. put_mid (longest * i) (j - longest * i) z ys) c.deref-mut.ensures.value in
+    let m = c.deref_mut.result.now in
+    let f = with_items_is s.memory (put_mid (longest * i) (j - longest * i) m ys) (same_len_mid (longest * i) (j - longest * i) m ys c.copy_from_slice.ensures.len ∙ c.deref_mut.ensures.len) in
+    let w = f ∙ ap (λ z. put_mid (longest * i) (j - longest * i) z ys) c.deref_mut.ensures.value in
     record {
-      list = put_text s i c.requires.inside _ b ys j c.requires.short refl refl w refl c.copy-from-slice.ensures.after;
+      list = put_text s i c.requires.inside _ b ys j c.requires.short refl refl w refl c.copy_from_slice.ensures.after;
       slots = refl;
       fits = texts_fit s i c.requires.inside b c.requires.short;
     }

@@ -12,6 +12,7 @@ use crate::failure::Failure;
 use crate::parse::Words;
 use std::alloc::Global;
 use std::io::{Read, Write};
+use std::process::ExitCode;
 
 // The answer to a request.
 fn answer(heap: Global, line: &str, out: &mut String) -> Result<(), Failure> {
@@ -38,19 +39,23 @@ fn answers(heap: Global, requests: &str) -> Result<String, Failure> {
     Ok(out)
 }
 
-fn main(rt: HostRuntime) -> Result<(), Failure> {
+// Reads all requests, and writes all answers.
+fn serve(rt: &HostRuntime) -> Result<(), Failure> {
     let heap = rt.alloc();
     let mut requests = String::new(heap);
     rt.stdin().read_to_string(&mut requests)?;
-    match answers(heap, requests.as_str()) {
-        Ok(all) => {
-            rt.stdout().write_all(all.as_bytes())?;
-            Ok(())
-        }
+    let all = answers(heap, requests.as_str())?;
+    rt.stdout().write_all(all.as_bytes())?;
+    Ok(())
+}
+
+fn main(rt: HostRuntime) -> ExitCode {
+    match serve(&rt) {
+        Ok(()) => ExitCode::SUCCESS,
         Err(failure) => {
             let why = failure.meaning();
             let _ = eprintln!(rt; "drill: {why}");
-            Err(failure)
+            ExitCode::FAILURE
         }
     }
 }

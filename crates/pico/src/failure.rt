@@ -21,18 +21,18 @@ impl Failure {
 
 impl From<io::Error> for Failure {
     fn from(error: io::Error) -> Failure {
-        Failure::Told(anyhow!(error))
+        Failure::Told(anyhow::Error::from(error))
     }
 }
 
 impl From<AllocError> for Failure {
     fn from(error: AllocError) -> Failure {
-        Failure::Told(anyhow!(error))
+        Failure::Told(anyhow::Error::from(error))
     }
 }
 
 impl<T: Drop> From<AllocFailed<T>> for Failure {
     fn from(_refused: AllocFailed<T>) -> Failure {
-        Failure::Told("pico: out of memory".into())
+        Failure::Told(anyhow!("pico: out of memory"))
     }
 }

@@ -17,10 +17,11 @@ mod tree;
 
 use crate::failure::Failure;
 use std::env;
+use std::process::ExitCode;
 use std::rt::Env;
 
 fn told(message: &'static str) -> Result<(), Failure> {
-    Err(Failure::Told(message.into()))
+    Err(Failure::Told(anyhow::Error::msg(message)))
 }
 
 fn words(rt: &HostRuntime, args: &[String]) -> Result<(), Failure> {
@@ -163,13 +164,17 @@ fn command(rt: &HostRuntime, args: &[String]) -> Result<(), Failure> {
     }
 }
 
-fn main(rt: HostRuntime) -> Result<(), Failure> {
-    let args = arguments(&rt)?;
-    match command(&rt, args.as_slice()) {
-        Ok(()) => Ok(()),
+fn start(rt: &HostRuntime) -> Result<(), Failure> {
+    let args = arguments(rt)?;
+    command(rt, args.as_slice())
+}
+
+fn main(rt: HostRuntime) -> ExitCode {
+    match start(&rt) {
+        Ok(()) => ExitCode::SUCCESS,
         Err(failure) => {
             failure.tell(&rt);
-            Err(failure)
+            ExitCode::FAILURE
         }
     }
 }

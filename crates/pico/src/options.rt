@@ -1,6 +1,7 @@
 // The options of play.
 use crate::failure::Failure;
 use crate::play::{Options, PLAIN};
+use anyhow::anyhow;
 
 // What was asked of play: options, a script of calls or none, and the file.
 #[derive(Drop)]
@@ -14,9 +15,9 @@ fn number(word: Option<&String>) -> Result<u64, Failure> {
     match word {
         Some(text) => match text.as_str().parse::<u64>() {
             Ok(n) => Ok(n),
-            Err(_) => Err(Failure::Told("pico: an option wants a number behind it".into())),
+            Err(_) => Err(Failure::Told(anyhow!("pico: an option wants a number behind it"))),
         },
-        None => Err(Failure::Told("pico: an option wants a number behind it".into())),
+        None => Err(Failure::Told(anyhow!("pico: an option wants a number behind it"))),
     }
 }
 

@@ -2,6 +2,7 @@
 use crate::failure::Failure;
 use crate::fault::shown;
 use crate::loaded::from_file;
+use anyhow::anyhow;
 use deck::deck::Deck;
 use player::perform::perform;
 use rows::Rows;
@@ -26,7 +27,7 @@ fn variable(deck: &Deck, name: &str) -> usize {
 fn grant(word: &str) -> Result<u16, Failure> {
     match word.parse::<u16>() {
         Ok(n) => Ok(n),
-        Err(_) => Err(Failure::Told("pico: play takes a number from 0 to 65535".into())),
+        Err(_) => Err(Failure::Told(anyhow!("pico: play takes a number from 0 to 65535"))),
     }
 }
 
@@ -47,9 +48,9 @@ fn call(deck: &Deck, text: &str) -> Result<Call, Failure> {
             if words == "rewind" {
                 return Ok(Call::Rewind);
             }
-            Err(Failure::Told("pico: a call is play N, look NAME or rewind".into()))
+            Err(Failure::Told(anyhow!("pico: a call is play N, look NAME or rewind")))
         }
-        _ => Err(Failure::Told("pico: a call is play N, look NAME or rewind".into())),
+        _ => Err(Failure::Told(anyhow!("pico: a call is play N, look NAME or rewind"))),
     }
 }
 

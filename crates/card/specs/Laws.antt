@@ -1,6 +1,6 @@
 -- The laws of the card.
 use Rattle.std.specs.Prelude.{◌≡◌, ℕ, ◌<◌, ◌≤◌, List, length, take, Ok}
-use Rattle.std.specs.List.{AllByRecursion as All}
+use Rattle.std.specs.List.{AllByRecursion}
 use Rattle.deck.specs.declared.deck.Deck.{Deck}
 use Rattle.deck.specs.Load.{load_says}
 use Rattle.deck.specs.Sheets.{sheet_of, given}
@@ -9,7 +9,7 @@ use Rattle.card.specs.Card.{card_of, sheet_in}
 
 -- the numbers are bytes
 abbrev pub Bytes : List ℕ → Type 0
-Bytes bs = All (λ b. b < 256) bs
+Bytes bs = AllByRecursion (λ b. b < 256) bs
 
 -- what m nodes and l letters hold after Unpack of the card is accepted by Load, and is the deck's sheet
 pub record Back (d : Deck) (m l : ℕ) : Type 0 where

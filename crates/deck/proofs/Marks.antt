@@ -3,7 +3,7 @@ use Rattle.std.proofs.Common.{◌≡◌, ℕ, ◌+◌, ◌<◌, ◌≤◌, Bool,
 use lib.ListN.{get_or-replicate}
 use Rattle.std.proofs.lemmas.List.{get_or_past}
 use Rattle.std.proofs.lemmas.Bool.{cases_eq, cases_lt, eq-eqb, ne_eqb}
-use Rattle.std.specs.List.{AllByRecursion as All}
+use Rattle.std.specs.List.{AllByRecursion}
 use Rattle.nodes.specs.declared.node.Node.{Node}
 use Rattle.nodes.specs.declared.view.View.{View}
 use Rattle.nodes.specs.declared.view.Arrows.{Arrows}
@@ -28,11 +28,11 @@ or_turn true true c = refl
 or_turn true false c = refl
 or_turn false b c = refl
 
-all_more : {P Q : ℕ → Type 0} (ks : List ℕ) → All P ks → ((j : ℕ) → P j → Q j) → All Q ks
+all_more : {P Q : ℕ → Type 0} (ks : List ℕ) → AllByRecursion P ks → ((j : ℕ) → P j → Q j) → AllByRecursion Q ks
 all_more [] l f = tt
 all_more (k ∷ ks) l f = (f k l.0, all_more ks l.1 f)
 
-marked_is : (xs : List Bool) (ks : List ℕ) (k : ℕ) → All (λ j. j < length xs) ks → get_or (marked xs ks) k false ≡ (among k ks || get_or xs k false)
+marked_is : (xs : List Bool) (ks : List ℕ) (k : ℕ) → AllByRecursion (λ j. j < length xs) ks → get_or (marked xs ks) k false ≡ (among k ks || get_or xs k false)
 marked_is xs [] k l = refl
 marked_is xs (a ∷ ks) k l =
     let n = length-set xs a true in
@@ -61,8 +61,8 @@ module _ (ns : List Node) (i : ℕ) (t : Tables) (x : Node) (w : View) (h : i < 
   pub nest_fits : (d : ℕ) → nest (tree ns i) ≤ deepest_nest → d ≡ nest_by (λ k. get_or t.nests k 0) w → d ≤ deepest_nest
   nest_fits d y m = let e = nest_found ns i _ w d seen led_by tied.nest_is m in omega arith
 
-  pub targets_fit : (n : ℕ) (ar : Arrows) → n ≡ most_nodes → ar ≡ arrows_of w → All (λ k. k < n) (targets ar)
-  targets_fit n ar r s = subst (λ y. All (λ k. k < n) (targets y)) (sym s) (all_more (targets (arrows_of w)) (all_low ns i (arrows_of w) led_by) (λ j l. omega arith))
+  pub targets_fit : (n : ℕ) (ar : Arrows) → n ≡ most_nodes → ar ≡ arrows_of w → AllByRecursion (λ k. k < n) (targets ar)
+  targets_fit n ar r s = subst (λ y. AllByRecursion (λ k. k < n) (targets y)) (sym s) (all_more (targets (arrows_of w)) (all_low ns i (arrows_of w) led_by) (λ j l. omega arith))
 
   pub tied_more : (bl : List Bool) (l d : ℕ) (ar : Arrows)
       → length t.levels ≡ most_nodes → length t.nests ≡ most_nodes → length t.taken ≡ most_nodes

@@ -1,6 +1,6 @@
 // What the nodes below the one in hand have told: levels, nests, and which nodes have an arrow.
 ghost use Rattle.std.specs.Prelude.{◌≡◌, ◌+◌, ◌-◌, ◌<◌, ◌≤◌, true, false, List, length, get_or, slice_index, slice_index_or};
-ghost use Rattle.std.specs.List.{AllByRecursion as All};
+ghost use Rattle.std.specs.List.{AllByRecursion};
 ghost use Rattle.nodes.specs.declared.node.Node.{Node};
 ghost use Rattle.nodes.specs.Limits.{most_nodes, deepest_level, deepest_nest};
 ghost use Rattle.nodes.specs.Nodes.{node_at, view_of, arrows_of, targets, all_lead};
@@ -58,7 +58,7 @@ fn nest(nests: &[u8], view: View) -> u16
 }
 
 fn take_all(taken: &mut [bool], arrows: Arrows)
-    requires { All (λ k. k < length taken.old) (targets arrows) }
+    requires { AllByRecursion (λ k. k < length taken.old) (targets arrows) }
     ensures { taken.new ≡ marked taken.old (targets arrows) }
 {
     match arrows {

@@ -1,7 +1,7 @@
 -- The tree of a node is built from the trees of the lower nodes that its arrows lead to.
 use Rattle.std.proofs.Common.{◌≡◌, ℕ, zero, suc, ◌<◌, Bool, true, false, cond, ◌&&◌, ltb, List, sym, refl, ap, ◌∙◌, not-suc-le-zero, arith}
 use Rattle.std.proofs.lemmas.Bool.{cond-true, ltb-true, and_parts, lt-ltb}
-use Rattle.std.specs.List.{AllByRecursion as All}
+use Rattle.std.specs.List.{AllByRecursion}
 use Rattle.nodes.specs.declared.node.Node.{Node}
 use Rattle.nodes.specs.declared.view.View.{View}
 use Rattle.nodes.specs.declared.view.View.TheVariants as V
@@ -15,7 +15,7 @@ use Rattle.nodes.specs.Trees.{Tree, none, build, decode, tree, level, nest, leve
 pub lead_parts : (ns : List Node) (i : ℕ) (x : Arrow) → leads ns i x ≡ true → (x.to < i) × (of_sort x.sort (node_at ns x.to).kind ≡ true)
 lead_parts ns i x e = let p = and_parts (ltb x.to i) (of_sort x.sort (node_at ns x.to).kind) e in (ltb-true x.to i p.0, p.1)
 
-pub all_low : (ns : List Node) (i : ℕ) (w : Arrows) → all_lead ns i w ≡ true → All (λ k. k < i) (targets w)
+pub all_low : (ns : List Node) (i : ℕ) (w : Arrows) → all_lead ns i w ≡ true → AllByRecursion (λ k. k < i) (targets w)
 all_low ns i Leaf e = tt
 all_low ns i (Two x y) e =
     let p = and_parts (leads ns i x) (leads ns i y) e in
@@ -26,7 +26,7 @@ all_low ns i (Three x y z) e =
     ((lead_parts ns i x p.0).0, ((lead_parts ns i y q.0).0, ((lead_parts ns i z q.1).0, tt)))
 
 -- a tree is built alike from trees that are alike where its arrows lead
-build_same : (P : ℕ → Type 0) (f g : ℕ → Tree) → ((a : ℕ) → P a → f a ≡ g a) → (w : View) → All P (targets (arrows_of w)) → build f w ≡ build g w
+build_same : (P : ℕ → Type 0) (f g : ℕ → Tree) → ((a : ℕ) → P a → f a ≡ g a) → (w : View) → AllByRecursion P (targets (arrows_of w)) → build f w ≡ build g w
 build_same P f g e (V.Declaration p s k) l = refl
 build_same P f g e (V.Variable p s n) l = refl
 build_same P f g e (V.Number v) l = refl
@@ -40,7 +40,7 @@ build_same P f g e (V.Series a b) l = let p = e a l.0 in let q = e b l.1.0 in cc
 build_same P f g e V.Empty l = refl
 build_same P f g e V.Unknown l = refl
 
-every_node : (w : Arrows) → All (λ k. Unit {0}) (targets w)
+every_node : (w : Arrows) → AllByRecursion (λ k. Unit {0}) (targets w)
 every_node Leaf = tt
 every_node (Two x y) = (tt, (tt, tt))
 every_node (Three x y z) = (tt, (tt, (tt, tt)))
@@ -71,7 +71,7 @@ tree_led ns i led =
     tree_is ns i ∙ build_same (λ k. k < i) _ (tree ns) (λ k h. cond-true (ltb k i) (tree ns k) none (lt-ltb k i h)) (view_at ns i) (all_low ns i (arrows_of (view_at ns i)) led)
 
 -- level and nest, by those of the nodes where the arrows lead
-level_at : (g : ℕ → Tree) (f : ℕ → ℕ) (i : ℕ) → ((k : ℕ) → k < i → f k ≡ level (g k)) → (w : View) → All (λ k. k < i) (targets (arrows_of w)) → level (build g w) ≡ level_by f w
+level_at : (g : ℕ → Tree) (f : ℕ → ℕ) (i : ℕ) → ((k : ℕ) → k < i → f k ≡ level (g k)) → (w : View) → AllByRecursion (λ k. k < i) (targets (arrows_of w)) → level (build g w) ≡ level_by f w
 level_at g f i e (V.Declaration p s k) l = refl
 level_at g f i e (V.Variable p s n) l = refl
 level_at g f i e (V.Number v) l = refl
@@ -85,7 +85,7 @@ level_at g f i e (V.Series a b) l = refl
 level_at g f i e V.Empty l = refl
 level_at g f i e V.Unknown l = refl
 
-nest_at : (g : ℕ → Tree) (f : ℕ → ℕ) (i : ℕ) → ((k : ℕ) → k < i → f k ≡ nest (g k)) → (w : View) → All (λ k. k < i) (targets (arrows_of w)) → nest (build g w) ≡ nest_by f w
+nest_at : (g : ℕ → Tree) (f : ℕ → ℕ) (i : ℕ) → ((k : ℕ) → k < i → f k ≡ nest (g k)) → (w : View) → AllByRecursion (λ k. k < i) (targets (arrows_of w)) → nest (build g w) ≡ nest_by f w
 nest_at g f i e (V.Declaration p s k) l = refl
 nest_at g f i e (V.Variable p s n) l = refl
 nest_at g f i e (V.Number v) l = refl

@@ -75,13 +75,13 @@ fn play_sheet(rt: &HostRuntime, args: &[String]) -> Result<(), Failure> {
     }
 }
 
-// The commands, or one of them.
+// What is said of a command, or else of all of them.
 fn say(rt: &HostRuntime, args: &[String]) -> Result<(), Failure> {
     match args {
         [] => Ok(rt.print(help::USAGE)?),
         [command, ..] => match help::about(command.as_str()) {
             Some(text) => Ok(rt.print(text)?),
-            None => told("pico: there is no such command; pico help lists them"),
+            None => Ok(rt.print(help::USAGE)?),
         },
     }
 }

@@ -1,7 +1,6 @@
 -- Worked cases: small sheets, with what Read, Load, the card, the semantics and the shelf say of them.
 use Rattle.std.specs.Prelude.{◌≡◌, ℕ, true, List, [], ◌∷◌, ◌++◌, length, take, replicate, Ok, Err, codes}
 use Rattle.words.specs.declared.word.Refusal.TheVariants as T
-use Rattle.nodes.specs.declared.node.Node.{Node}
 use Rattle.nodes.specs.Nodes.{Sheet, node}
 use Rattle.reader.specs.Read.{fault, read_says, read_nodes}
 use Rattle.deck.specs.Load.{load_says}

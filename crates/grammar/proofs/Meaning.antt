@@ -1,10 +1,9 @@
 -- What refusals mean.
-use Rattle.std.proofs.Common.{◌≡◌, ℕ, Bool, true, false, List, [], ◌∷◌, ◌++◌, sym, refl, ap, ◌∙◌, subst, append_assoc, append-nil, arith}
-use Rattle.grammar.specs.Grammar.{Fixed, Begin, End, Declare, Integer, String, If, Then, Else, Fi, While, Do, Od, Open, Close, Plus, Minus, Semicolon, Comma, Join, Colon, Becomes, Part, Token, fixed, name, number, text, Sort, integer, string, word_of, Tree, variable, constant, letters, plus, join, assign, choose, loop, none, more, first, also, sheet, Goal, Sheet, Declarations, Series, Statement, Expression, Term, Derives, one_name, more_names, nothing, one, several, assigns, chooses, loops, a_term, adds, joins, a_name, a_number, a_text, grouped}
+use Rattle.std.proofs.Common.{◌≡◌, ℕ, List, [], ◌∷◌, ◌++◌, sym, refl, ap, ◌∙◌, subst, append_assoc, append-nil, arith}
+use Rattle.grammar.specs.Grammar.{Fixed, Begin, End, Declare, Integer, Then, Else, Fi, Do, Od, Close, Semicolon, Colon, Becomes, Part, Token, fixed, name, number, text, integer, Tree, variable, assign, choose, loop, none, more, first, sheet, Sheet, Derives}
 use Rattle.words.specs.declared.word.Refusal.{Refusal}
 use Rattle.words.specs.declared.word.Refusal.TheVariants as R
-use Rattle.grammar.specs.Grammar as G
-use Rattle.grammar.specs.Machine.{code, same, Around, whole, after, taken, left, body, Before, start, sum, chain, For, value, test, guard, group, Given, nothing_yet, given, declare, State, empty, begun, naming, typing, sorting, declared, series, closing, becoming, done, term, tail, leaving, over, Move, go, no, when, or, with, close, finish, leave, sorted, on_fixed, on_name, on_leaf, feed, place, Last, stop, bad, Answer, read, fault, Whole, is, not, whole_of, refused, ended, run, reading}
+use Rattle.grammar.specs.Machine.{Around, whole, after, taken, left, body, For, value, test, guard, group, declare, State, empty, begun, naming, typing, sorting, declared, series, closing, becoming, done, term, tail, leaving, over, Move, go, no, with, feed, place, Last, stop, bad, Answer, read, fault, Whole, is, not, whole_of, refused, ended, run}
 use Rattle.grammar.specs.Laws.{Begins, Never, Unfinished, Means, not_allowed, ends_early, more_after, bad_word, Faults, Exact}
 use Rattle.grammar.proofs.Complete.{Closer, an_end, an_else, a_fi, an_od, closer, no_more, last_one, assigned, complete}
 use Rattle.grammar.proofs.Sound.{Leads, at_empty, Onto, leads_on, Ends, ends, run_sound, refused_not}

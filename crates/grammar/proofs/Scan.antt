@@ -1,8 +1,8 @@
 -- The reader goes from word to word.
-use Rattle.std.proofs.Common.{◌≡◌, ℕ, zero, suc, ◌-◌, ◌<◌, ◌≤◌, List, [], ◌∷◌, sym, refl, ap, ◌∙◌, subst, arith}
+use Rattle.std.proofs.Common.{◌≡◌, ℕ, zero, suc, ◌-◌, ◌<◌, ◌≤◌, [], ◌∷◌, refl, ap, ◌∙◌, arith}
 use Rattle.words.specs.declared.word.Refusal.{Refusal}
 use Rattle.grammar.specs.Grammar.{Token}
-use Rattle.grammar.specs.Machine.{Last, stop, bad, State, Move, go, no, feed, refused, ended, whole_of, place, run, Answer, fault}
+use Rattle.grammar.specs.Machine.{stop, bad, State, Move, go, no, feed, refused, ended, whole_of, place, run, Answer, fault}
 use Rattle.grammar.specs.Scan.{Found, word, nothing_left, wrong, words_by, last_by, words_from, last_from}
 
 module _ (find : ℕ → Found) (n : ℕ) (ahead : (p : ℕ) (x : Token) (q : ℕ) → find p ≡ word x q → (p < q) × (q ≤ n)) where

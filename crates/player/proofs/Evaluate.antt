@@ -19,7 +19,7 @@ use Rattle.semantics.specs.declared.call.Outcome.{Outcome}
 use Rattle.semantics.specs.declared.call.Outcome.TheVariants.{Number, Text}
 use Rattle.semantics.specs.Syntax.{Expr, var, num, str, plus, conc, expression}
 use Rattle.semantics.specs.Expressions.{added, joined, value}
-use Rattle.semantics.specs.Calls.{seen_as, seen, answer}
+use Rattle.semantics.specs.Calls.{seen_as, seen}
 use Rattle.semantics.proofs.Expressions.{Fine, expression_fine, expression_is, build}
 use Rattle.player.specs.Evaluation.{Computed, numbered, beyond, amount_of, sum_of, ends_of, ending, Appended, Spelled, spelling}
 use Rattle.nodes.specs.declared.view.View.TheVariants as V

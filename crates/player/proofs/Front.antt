@@ -10,8 +10,6 @@ use Rattle.deck.specs.Sound.{Right}
 use Rattle.deck.specs.Sheets.{sheet_of}
 use Rattle.deck.proofs.OfDeck.{sound}
 use Rattle.semantics.specs.declared.status.Status.TheVariants.{Ready}
-use Rattle.semantics.specs.Syntax.{statement}
-use Rattle.semantics.specs.Evaluates.{again}
 use Rattle.player.specs.declared.course.Course.{Course}
 use Rattle.player.specs.Of.{front_of, Comes}
 use Rattle.player.proofs.Stack.{reversed, top, ready_some}

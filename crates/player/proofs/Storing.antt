@@ -4,7 +4,6 @@ use Rattle.std.proofs.lemmas.List.{set_past}
 use Rattle.std.proofs.lemmas.Bool.{cond-true, cond-false, lt-ltb, le-ltb, cases_lt, cases_Bool}
 use Rattle.shelf.specs.Calls.{after as kept}
 use Rattle.shelf.specs.declared.refusal.Refusal.TheVariants as F
-use Rattle.deck.proofs.OfDeck.{fits}
 use Rattle.shelf.specs.Limits.{longest}
 use Rattle.shelf.specs.Value.{Value, number, text, total}
 use Rattle.shelf.specs.Calls.{number_put, text_answer, text_put}

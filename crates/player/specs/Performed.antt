@@ -8,8 +8,8 @@ use Rattle.semantics.specs.declared.call.Call.{Call}
 use Rattle.semantics.specs.declared.call.Call.TheVariants.{Play, Rewind, Look}
 use Rattle.semantics.specs.declared.call.Answer.{Answer}
 use Rattle.semantics.specs.declared.call.Answer.TheVariants.{Played, Rewound, Looked}
-use Rattle.semantics.specs.Semantics.{run, beats, begun}
-use Rattle.semantics.specs.Calls.{after, all_after, all_answers, granted, reported}
+use Rattle.semantics.specs.Semantics.{run, begun}
+use Rattle.semantics.specs.Calls.{all_after, all_answers, granted, reported}
 use Rattle.semantics.specs.Evaluates.{Evaluates, beats_in, whole, starting}
 use Rattle.semantics.specs.Law.{Held, Has, Endless, Lawful}
 use Rattle.semantics.specs.Report.{ComesTo}

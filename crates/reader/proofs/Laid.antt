@@ -1,6 +1,5 @@
 -- Trees laid out as nodes, part by part.
-use Rattle.std.proofs.Common.{◌≡◌, ℕ, zero, suc, ◌+◌, ◌-◌, ◌<◌, ◌≤◌, Bool, true, false, cond, List, [], ◌∷◌, ◌++◌, length, set, replicate, Some, None, Ok, Err, Option, Result, sym, refl, ap, ◌∙◌, subst, ⊎_elim, append_assoc, arith, length-append}
-use lib.Seq.{set_at}
+use Rattle.std.proofs.Common.{◌≡◌, ℕ, ◌+◌, ◌-◌, Bool, true, false, List, [], ◌∷◌, ◌++◌, length, set, Some, None, Ok, Err, Result, sym, refl, ap, ◌∙◌, subst, ⊎_elim, arith, length-append}
 use Rattle.std.proofs.lemmas.Bool.{cases_Bool, cond-true, cond-false}
 use Rattle.nodes.specs.declared.node.Node.{Node}
 use Rattle.nodes.specs.Nodes.{node}
@@ -13,12 +12,12 @@ use Rattle.words.specs.Words as L
 use Rattle.spelling.specs.declared.Entry.{Entry}
 use Rattle.reader.specs.declared.names.Declared.{Declared}
 use Rattle.reader.specs.declared.step.Ahead.{Ahead}
-use Rattle.grammar.specs.Grammar.{Open, Plus, Join, Part, Sort, Token, fixed, name, number, text, Tree, variable, constant, letters, plus, join, assign, choose, loop, none, more, first, also, sheet}
-use Rattle.grammar.specs.Machine.{same, Given, naming, sorting, declared, Before, start, sum, chain, For, group, State, term, tail, leaving, with, go, fault}
+use Rattle.grammar.specs.Grammar.{Open, Plus, Join, Part, Sort, fixed, name, number, text, Tree, variable, constant, letters, plus, join, assign, choose, loop, none, more, first, also, sheet}
+use Rattle.grammar.specs.Machine.{same, Given, naming, sorting, declared, Before, start, sum, chain, For, group, State, term, tail, leaving, with, fault}
 use Rattle.grammar.specs.Scan.{Found, word, nothing_left, wrong}
 use Rattle.reader.specs.Text.{seen_as, found, token, at}
 use Rattle.reader.specs.Layout.{declaration, entry, entries, size, lay, write}
-use Rattle.reader.specs.Parts.{is_word, behind, expected, leaf_of, joint_of, Reads, ReadAs, TypedAs, DeclaredAs, Listed, ListedAs}
+use Rattle.reader.specs.Parts.{is_word, behind, expected, leaf_of, joint_of, ReadAs, TypedAs, DeclaredAs, Listed, ListedAs}
 use Rattle.reader.proofs.Steps.{apart, leaf_at, plus_at, join_at, no_joint_at, open_at, no_open_at}
 
 pub write_append : {X : Type 0} (xs : List X) (i : ℕ) (us vs : List X) → write xs i (us ++ vs) ≡ write (write xs i us) (i + length us) vs

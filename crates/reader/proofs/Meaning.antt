@@ -1,6 +1,6 @@
 -- Read, in the words of the grammar.
-use Rattle.std.proofs.Common.{◌≡◌, ℕ, ◌-◌, ◌<◌, ◌≤◌, ltb, leb, List, ◌++◌, length, Ok, Err, Result, sym, refl, ap, ◌∙◌, subst, ⊎_elim, arith}
-use Rattle.std.proofs.lemmas.Bool.{cases_lt, cond-true, cond-false, cond_both, lt-ltb, le-leb, leb-true, leb-false}
+use Rattle.std.proofs.Common.{◌≡◌, ℕ, ◌≤◌, ltb, leb, List, length, Ok, Result, sym, refl, ap, ◌∙◌, subst, ⊎_elim}
+use Rattle.std.proofs.lemmas.Bool.{cases_lt, cond-true, cond_both, lt-ltb, le-leb, leb-true, leb-false}
 use Rattle.words.specs.declared.word.Fault.{Fault}
 use Rattle.nodes.specs.Limits.{most_letters}
 use Rattle.grammar.specs.Grammar.{Tree}
@@ -11,9 +11,9 @@ use Rattle.grammar.proofs.Complete.{complete}
 use Rattle.grammar.proofs.Meaning.{faults, exact}
 use Rattle.reader.specs.declared.read.Sizes.{Sizes}
 use Rattle.reader.specs.Text.{words_of, last_of, parsed}
-use Rattle.reader.specs.Layout.{size, entries}
-use Rattle.reader.specs.Read.{judged, sheet_in, places, counted, filled, read_says}
-use Rattle.reader.specs.Laws.{Accepted, Refused, too_long, by_words, too_many, StandsFor, Meant, Complete, Exact}
+use Rattle.reader.specs.Layout.{size}
+use Rattle.reader.specs.Read.{judged, sheet_in, places, counted, filled}
+use Rattle.reader.specs.Laws.{too_long, by_words, too_many, StandsFor, Meant, Complete, Exact}
 use Rattle.reader.proofs.Whole.{short}
 
 meant_short : (t : List ℕ) (g : ℕ) → length t ≤ most_letters → (a : Answer) → parsed t ≡ a → StandsFor t g (counted g (judged a))

@@ -1,11 +1,10 @@
 -- How a statement begins.
-use Rattle.std.proofs.Common.{◌≡◌, ℕ, ◌+◌, ◌-◌, Bool, true, false, cond, List, sym, refl, ap, ◌∙◌, arith}
+use Rattle.std.proofs.Common.{◌≡◌, ℕ, ◌-◌, Bool, true, false, cond, List, sym, refl, ap, ◌∙◌}
 use Rattle.words.specs.Words.{Lex}
 use Rattle.words.specs.Words as L
-use Rattle.grammar.specs.Grammar.{Fixed, If, While, Semicolon, Part, Token, fixed, name, number, text, none}
+use Rattle.grammar.specs.Grammar.{Fixed, If, While, Part, fixed, name, number, text, none}
 use Rattle.grammar.specs.Machine.{same, Around, test, guard, start, series, closing, becoming, term}
 use Rattle.grammar.specs.Scan.{Found, word, nothing_left, wrong}
-use Rattle.reader.specs.declared.statement.Start.{Start}
 use Rattle.reader.specs.declared.statement.Start.TheVariants as S
 use Rattle.reader.specs.Text.{seen_as, found, at}
 use Rattle.reader.specs.Parts.{is_word, unexpected, behind, expected, start_of}

@@ -1,7 +1,6 @@
 -- Reading goes on from word to word.
-use Rattle.std.proofs.Common.{◌≡◌, ℕ, ◌+◌, ◌-◌, ◌<◌, ◌≤◌, min, Bool, true, false, eqb, List, length, Ok, Err, sym, refl, ap, ◌∙◌, subst, inl, inr, ⊎_elim, arith}
-use Rattle.std.proofs.lemmas.Bool.{cases_lt, eqb-true, ne_eqb, true≢false, false≢true}
-use Rattle.words.specs.declared.word.Refusal.{Refusal}
+use Rattle.std.proofs.Common.{◌≡◌, ℕ, ◌<◌, ◌≤◌, min, Bool, true, false, List, length, Ok, Err, sym, refl, ap, ◌∙◌, ⊎_elim, arith}
+use Rattle.std.proofs.lemmas.Bool.{cases_lt, eqb-true, ne_eqb, false≢true}
 use Rattle.words.specs.declared.word.Refusal.TheVariants as R
 use Rattle.words.specs.Bytes.{layout, runs_to}
 use Rattle.words.specs.Words.{Lex, Spelt, Scanned, moves, word_at, after, hit}
@@ -9,12 +8,12 @@ use Rattle.words.specs.Words as L
 use Rattle.words.proofs.Runs.{run_le}
 use Rattle.words.proofs.Spelled.{word_none}
 use Rattle.words.proofs.Reading.{taken}
-use Rattle.grammar.specs.Grammar.{Fixed, Begin, End, Declare, Integer, String, If, Then, Else, Fi, While, Do, Od, Open, Close, Plus, Semicolon, Comma, Join, Colon, Becomes, Part, Token, fixed, name, number, text, integer, string, Tree, variable, constant, letters, assign, choose, loop, none, more, sheet}
+use Rattle.grammar.specs.Grammar.{Fixed, Begin, End, Declare, Integer, String, If, Then, Else, Fi, While, Do, Od, Open, Close, Plus, Semicolon, Comma, Join, Colon, Becomes, Part, Token, fixed, name, number, text, integer, string, Tree, constant, letters, assign, choose, loop, none, more, sheet}
 use Rattle.grammar.specs.Machine.{code, same, Around, whole, taken as then-taken, left, body, Before, start, sum, chain, For, value, test, guard, group, Given, nothing_yet, given, declare, State, empty, begun, naming, typing, sorting, declared, series, closing, becoming, done, term, tail, leaving, over, Move, go, no, when, or, with, close, finish, leave, on_fixed, on_name, on_leaf, feed, place, stop, Answer, read, fault, Whole, is, not, whole_of, refused, ended}
 use Rattle.grammar.specs.Machine as M
 use Rattle.grammar.specs.Scan.{Found, word, nothing_left, wrong}
 use Rattle.grammar.proofs.Scan.{at_word, at_refused, at_stop, at_wrong}
-use Rattle.reader.specs.Text.{seen_as, seen, found, token, from, at}
+use Rattle.reader.specs.Text.{seen_as, seen, found, from, at}
 use Rattle.reader.specs.Parts.{is_word, unexpected, behind, expected}
 
 pub apart : {X : Type 0} → ◌≡◌ {A = ℕ} 0 1 → X

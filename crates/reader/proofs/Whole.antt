@@ -1,5 +1,5 @@
 -- A whole sheet.
-use Rattle.std.proofs.Common.{◌≡◌, ℕ, zero, suc, ◌+◌, ◌-◌, ◌<◌, ◌≤◌, min, true, false, cond, ltb, leb, List, [], ◌∷◌, ◌++◌, length, take, drop, set, replicate, Ok, Err, Result, sym, refl, ap, ◌∙◌, subst, append_assoc, arith, length-append, take_at}
+use Rattle.std.proofs.Common.{◌≡◌, ℕ, zero, suc, ◌+◌, ◌-◌, ◌<◌, ◌≤◌, min, ltb, List, [], ◌∷◌, ◌++◌, length, take, set, replicate, Ok, Err, Result, sym, refl, ap, ◌∙◌, subst, append_assoc, arith, length-append, take_at}
 use lib.Seq.{set_at}
 use Rattle.std.proofs.lemmas.Bool.{cond-true, cond-false, le-ltb, le-leb, lt-leb}
 use Rattle.words.specs.declared.word.Fault.{Fault}
@@ -21,7 +21,7 @@ use Rattle.reader.specs.declared.read.Sizes.{Sizes}
 use Rattle.reader.specs.Text.{seen_as, parsed, at}
 use Rattle.reader.specs.Layout.{size, entries, number_in, lay, write}
 use Rattle.reader.specs.Read.{judged, sheet_in, places, counted, laid, filled}
-use Rattle.reader.specs.Sheet.{Opened, OpenedAs, Said, SheetAs}
+use Rattle.reader.specs.Sheet.{OpenedAs, Said, SheetAs}
 use Rattle.reader.proofs.Steps.{past_end}
 use Rattle.reader.proofs.Laid.{length_lay, write_on}
 

@@ -9,7 +9,6 @@ use Rattle.shelf.specs.Value.{Value, number, text, kind_of, num_of, bytes_of, ov
 use Rattle.semantics.specs.declared.status.Cause.{Cause}
 use Rattle.semantics.specs.Syntax.{Expr, var, num, str, plus, conc, expr_of, expression, Statement, assign, if_else, while_do, skip, own, stated, statement}
 use Rattle.semantics.specs.Expressions.{ideal, Part, Passes, reason, within, added, joined, value}
-use Rattle.semantics.specs.Evaluates.{whole}
 use Rattle.semantics.specs.Law.{Held}
 use Rattle.nodes.specs.declared.view.View.TheVariants as V
 use Rattle.nodes.specs.Trees as T

@@ -4,7 +4,7 @@ use Rattle.nodes.specs.Nodes.{Sheet}
 use Rattle.deck.specs.Sound.{Sound}
 use Rattle.shelf.specs.Value.{Value}
 use Rattle.semantics.specs.declared.status.Status.TheVariants.{Ended}
-use Rattle.semantics.specs.Semantics.{State, run, beats, begun}
+use Rattle.semantics.specs.Semantics.{State, run, begun}
 use Rattle.semantics.specs.Evaluates.{Evaluates, beats_in, whole, starting}
 use Rattle.semantics.specs.Law.{IsStopped, Has, Endless}
 

@@ -1,12 +1,12 @@
 -- A word that begins at a place is no longer than the one that the scanner takes there.
-use Rattle.std.proofs.Common.{◌≡◌, ℕ, suc, ◌+◌, ◌-◌, ◌<◌, ◌≤◌, Bool, true, false, cond, not, ◌&&◌, eqb, ltb, List, [], ◌∷◌, ◌++◌, length, get_or, drop, is_some, IfOk, Some, None, Option, sym, refl, ap, ◌∙◌, subst, append_assoc, arith, length-append}
+use Rattle.std.proofs.Common.{◌≡◌, ℕ, ◌+◌, ◌-◌, ◌≤◌, true, false, not, ◌&&◌, eqb, ltb, List, [], ◌∷◌, ◌++◌, length, get_or, drop, is_some, IfOk, Some, None, Option, sym, refl, ap, ◌∙◌, subst, append_assoc, arith, length-append}
 use Rattle.std.proofs.lemmas.Bool.Decides.{nat_tests}
 use Rattle.std.specs.List.{prefix_len}
-use Rattle.std.proofs.lemmas.Bool.{cond_both, cond-true, cond-false, and_parts, lt-ltb, eq-eqb, both_ways}
+use Rattle.std.proofs.lemmas.Bool.{cond_both, cond-true, cond-false, and_parts, lt-ltb, eq-eqb}
 use Rattle.words.specs.declared.word.Fixed.{Fixed}
 use Rattle.words.specs.declared.word.Fixed.TheVariants as F
 use Rattle.words.specs.Bytes.{letter, digit, alnum, allowed, every, runs_to, cut}
-use Rattle.words.specs.Words.{Lex, Spelt, Scanned, keyword, begins, is_name, name_at, value, limited, numbered, number_at, text_to, text_at, begun, word_at}
+use Rattle.words.specs.Words.{Lex, Spelt, Scanned, keyword, begins, name_at, value, limited, numbered, number_at, begun, word_at}
 use Rattle.words.specs.Laws.{spelling_of, Spells, a_name, a_number, a_text, a_fixed}
 use Rattle.words.proofs.Runs.{leading_reaches, leading_stops, head_within, head_is, tail_is}
 

@@ -1,10 +1,9 @@
 -- The laws of the scanner, from word to word.
-use Rattle.std.proofs.Common.{◌≡◌, ℕ, zero, suc, ◌+◌, ◌-◌, ◌<◌, ◌≤◌, min, true, false, not, ◌&&◌, ◌⊎◌, List, [], ◌∷◌, ◌++◌, length, drop, is_some, IfOk, Some, None, Ok, Err, Option, Result, sym, refl, ap, ◌∙◌, subst, inl, inr, ⊎_elim, arith, length-drop}
+use Rattle.std.proofs.Common.{◌≡◌, ℕ, zero, suc, ◌-◌, ◌<◌, ◌≤◌, min, true, false, not, ◌&&◌, ◌⊎◌, List, [], ◌∷◌, ◌++◌, length, drop, is_some, IfOk, Some, None, Ok, Err, Option, sym, refl, ap, ◌∙◌, subst, inl, inr, ⊎_elim, arith}
 use Rattle.std.proofs.lemmas.List.{append-nil, drop_all}
 use Rattle.std.proofs.lemmas.Bool.{and_parts, not-true, cases_lt, true≢false}
-use Rattle.words.specs.declared.word.Fault.{Fault}
 use Rattle.words.specs.Bytes.{alnum, layout, every, runs_to, cut}
-use Rattle.words.specs.Words.{Lex, name, number, text, fixed, end, Spelt, Scanned, moves, keyword, begins, is_name, word_at, after}
+use Rattle.words.specs.Words.{Lex, name, number, text, fixed, end, Spelt, Scanned, moves, keyword, begins, word_at, after}
 use Rattle.words.specs.Laws.{Spells, a_name, a_number, a_text, a_fixed, Taken, Longest, NoKeyword, Last, stop, bad, Reading, finished, refused, then, MadeOf, gap, word, MakesUp, Ends}
 use Rattle.words.proofs.Runs.{run_every, run_le, cut_drop}
 use Rattle.words.proofs.Spelled.{Right, word_right, word_none}

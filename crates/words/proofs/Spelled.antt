@@ -1,6 +1,5 @@
 -- What the scanner hands out is spelled as its word is.
-use Rattle.std.proofs.Common.{◌≡◌, ℕ, suc, ◌+◌, ◌-◌, ◌<◌, ◌≤◌, Bool, true, false, cond, not, ◌&&◌, eqb, ltb, ◌⊎◌, List, [], ◌∷◌, ◌++◌, length, get_or, take, drop, is_some, IfOk, Some, None, codes, Option, sym, refl, ap, ◌∙◌, subst, inl, inr, ⊎_elim, arith, length-drop}
-use Rattle.std.specs.List.{prefix_len}
+use Rattle.std.proofs.Common.{◌≡◌, ℕ, ◌+◌, ◌-◌, ◌<◌, ◌≤◌, Bool, true, false, cond, not, ◌&&◌, eqb, ltb, ◌⊎◌, List, [], ◌∷◌, ◌++◌, length, get_or, is_some, IfOk, Some, None, Option, sym, refl, ap, ◌∙◌, subst, inl, inr, ⊎_elim, arith}
 use Rattle.std.specs.Str.{bytes_eq}
 use Rattle.std.proofs.lemmas.Slice.Eq.{bytes_eq-Decides}
 use Rattle.std.proofs.lemmas.List.{get_or_past}
@@ -9,7 +8,7 @@ use Rattle.std.proofs.lemmas.Bool.{cases_lt, both_ways, cond_both, cases_Bool, c
 use Rattle.words.specs.declared.word.Fixed.{Fixed}
 use Rattle.words.specs.declared.word.Fixed.TheVariants as F
 use Rattle.words.specs.Bytes.{letter, digit, alnum, allowed, every, runs_to, cut}
-use Rattle.words.specs.Words.{Lex, name, number, text, fixed, end, Spelt, Scanned, hit, moves, keyword, begins, is_name, named, name_at, value, limited, numbered, number_at, text_to, text_at, begun, word_at}
+use Rattle.words.specs.Words.{number, text, fixed, end, Spelt, Scanned, hit, moves, keyword, begins, named, name_at, value, limited, numbered, number_at, text_at, begun, word_at}
 use Rattle.words.specs.Laws.{spelling_of, Spells, a_name, a_number, a_text, a_fixed}
 use Rattle.words.proofs.Value.{limited_some}
 use Rattle.words.proofs.Runs.{run_every, run_le, cut_cons, cut_more, cut_none}

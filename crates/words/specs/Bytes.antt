@@ -1,5 +1,5 @@
 -- Classes of bytes, and runs of them.
-use Rattle.std.specs.Prelude.{ℕ, ◌+◌, ◌-◌, Bool, true, false, ◌&&◌, ◌||◌, List, [], ◌∷◌, take, drop, ◌==◌, nat_le}
+use Rattle.std.specs.Prelude.{ℕ, ◌+◌, ◌-◌, Bool, true, ◌&&◌, ◌||◌, List, [], ◌∷◌, take, drop, ◌==◌, nat_le}
 use Rattle.std.specs.List.{prefix_len}
 use Rattle.words.specs.declared.byte.Class.{Class}
 use Rattle.words.specs.declared.byte.Class.TheVariants as C

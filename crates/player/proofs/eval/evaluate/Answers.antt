@@ -1,9 +1,7 @@
 use Rattle.std.proofs.Common.{get_or, arith}
-use Rattle.nodes.specs.Nodes.{view_at}
 use Rattle.shelf.specs.Value.{number}
 use Rattle.shelf.proofs.Values.{short_bytes}
 use Rattle.player.proofs.Evaluate.{kind_as, no_text, computed_variable, computed_no_entry, computed_text, computed_conc, computed_err, computed_number}
-use Rattle.nodes.specs.declared.view.View.TheVariants as V
 use Rattle.player.proofs.eval.evaluate.Goals as goal
 
 pub spell_at-requires : goal.spell_at-requires

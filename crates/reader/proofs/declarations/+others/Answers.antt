@@ -1,4 +1,4 @@
-use Rattle.std.proofs.Common.{◌≡◌, ℕ, ◌+◌, ◌-◌, ◌<◌, List, [], ◌∷◌, ◌++◌, Ok, Err, Result, sym, refl, ap, ◌∙◌, subst, arith, rules}
+use Rattle.std.proofs.Common.{◌≡◌, ℕ, List, Ok, Err, Result, sym, ap, ◌∙◌, rules}
 use Rattle.grammar.specs.Grammar.{Tree}
 use Rattle.grammar.specs.Scan.{Found}
 use Rattle.spelling.specs.declared.Entry.{Entry}
@@ -7,14 +7,13 @@ use Rattle.words.specs.declared.word.Fault.{Fault}
 use Rattle.reader.specs.declared.names.Declared.{Declared}
 use Rattle.reader.specs.declared.step.Ahead.{Ahead}
 use Rattle.words.specs.Words.{meant}
-use Rattle.grammar.specs.Grammar.{Integer, Comma, integer, string, also}
+use Rattle.grammar.specs.Grammar.{Comma, also}
 use Rattle.grammar.specs.Machine as M
 use Rattle.reader.specs.Text.{token, at}
-use Rattle.reader.specs.Layout.{write, declaration, entry}
-use Rattle.reader.specs.Parts.{TypedAs, DeclaredAs, ListedAs}
-use Rattle.reader.proofs.Steps.{pass, colon_word, name_word, integer_at, string_at, comma_at, no_comma_at}
-use Rattle.reader.proofs.Laid.{type_refused, declaration_refused, list_refused, listed_more}
-use Rattle.reader.proofs.Stated.{part, behind_word}
+use Rattle.reader.specs.Parts.{ListedAs}
+use Rattle.reader.proofs.Steps.{comma_at, no_comma_at}
+use Rattle.reader.proofs.Laid.{list_refused, listed_more}
+use Rattle.reader.proofs.Stated.{behind_word}
 use Rattle.reader.proofs.declarations.+others.Goals as goal
 
 -- the declarations after one more

@@ -1,13 +1,11 @@
-use Rattle.std.proofs.Common.{◌≡◌, ℕ, ◌+◌, ◌-◌, ◌<◌, List, [], ◌∷◌, ◌++◌, sym, refl, ap, ◌∙◌, subst, arith, rules}
+use Rattle.std.proofs.Common.{sym, refl, ap, ◌∙◌, rules}
 use Rattle.words.specs.Words.{meant}
-use Rattle.grammar.specs.Grammar.{Integer, Comma, integer, string, also}
+use Rattle.grammar.specs.Grammar.{Integer, integer, string}
 use Rattle.grammar.specs.Machine as M
 use Rattle.reader.specs.Text.{token, at}
-use Rattle.reader.specs.Layout.{write, declaration, entry}
-use Rattle.reader.specs.Parts.{TypedAs, DeclaredAs, ListedAs}
-use Rattle.reader.proofs.Steps.{pass, colon_word, name_word, integer_at, string_at, comma_at, no_comma_at}
-use Rattle.reader.proofs.Laid.{type_refused, declaration_refused, list_refused, listed_more}
-use Rattle.reader.proofs.Stated.{part, behind_word}
+use Rattle.reader.proofs.Steps.{integer_at, string_at}
+use Rattle.reader.proofs.Laid.{type_refused}
+use Rattle.reader.proofs.Stated.{behind_word}
 use Rattle.reader.proofs.declarations.kind.Goals as goal
 
 pub returns-in_err-next : goal.returns-in_err-next

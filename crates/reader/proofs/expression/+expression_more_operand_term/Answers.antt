@@ -1,13 +1,12 @@
-use Rattle.std.proofs.Common.{◌≡◌, ℕ, ◌+◌, ◌-◌, ◌<◌, List, [], ◌∷◌, ◌++◌, sym, refl, ap, ◌∙◌, subst, arith, rules}
+use Rattle.std.proofs.Common.{◌≡◌, ◌+◌, ◌-◌, [], ◌∷◌, ◌++◌, sym, refl, ap, ◌∙◌, arith, rules}
 use Rattle.words.specs.Words.{meant}
 use Rattle.nodes.specs.declared.node.Node.{Node}
 use Rattle.nodes.specs.Nodes.{node}
-use Rattle.grammar.specs.Grammar.{Tree}
-use Rattle.grammar.specs.Machine.{Before, For, term, tail, leaving, start, group, with}
+use Rattle.grammar.specs.Machine.{term, tail, leaving, start, group, with}
 use Rattle.reader.specs.Text.{token, at}
 use Rattle.reader.specs.Layout.{number_in, size, lay, write}
 use Rattle.reader.proofs.Steps.{pass, close_word}
-use Rattle.reader.proofs.Laid.{write_two, length_lay, leaf_reads, joint_reads, behind_leaf, behind_joint, group_reads, refused_in, ends_by}
+use Rattle.reader.proofs.Laid.{write_two, leaf_reads, joint_reads, behind_leaf, behind_joint, group_reads, refused_in, ends_by}
 use Rattle.reader.proofs.expression.+expression_more_operand_term.Goals as goal
 
 pub expression-returns-in_err-first : goal.expression-returns-in_err-first

@@ -1,13 +1,9 @@
-use Rattle.std.proofs.Common.{◌≡◌, ℕ, ◌+◌, ◌-◌, ◌<◌, List, [], ◌∷◌, ◌++◌, sym, refl, ap, ◌∙◌, subst, arith, rules}
-use Rattle.words.specs.declared.word.Word.{Word}
-use Rattle.words.specs.Words.{meant}
-use Rattle.grammar.specs.Grammar.{first, sheet}
+use Rattle.std.proofs.Common.{sym, ap, ◌∙◌, rules}
+use Rattle.grammar.specs.Grammar.{sheet}
 use Rattle.grammar.specs.Machine as M
-use Rattle.reader.specs.Text.{seen_as, seen, token, at}
-use Rattle.reader.specs.Read.{judged}
-use Rattle.reader.proofs.Steps.{from_at, pass, begin_word, declare_word, end_word}
-use Rattle.reader.proofs.Laid.{listed_first, refused_in}
-use Rattle.reader.proofs.Whole.{short, opening_refused, opened, sheet_refused, past_word, laid_whole}
+use Rattle.reader.specs.Text.{token, at}
+use Rattle.reader.proofs.Steps.{pass, end_word}
+use Rattle.reader.proofs.Laid.{refused_in}
 use Rattle.reader.proofs.read.body.Goals as goal
 
 pub returns-in_err-all : goal.returns-in_err-all

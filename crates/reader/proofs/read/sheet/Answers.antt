@@ -1,13 +1,11 @@
-use Rattle.std.proofs.Common.{◌≡◌, ℕ, ◌+◌, ◌-◌, ◌<◌, min, List, [], ◌∷◌, ◌++◌, length, take, sym, refl, ap, ◌∙◌, subst, arith, rules}
+use Rattle.std.proofs.Common.{◌≡◌, ◌-◌, min, length, take, sym, ap, ◌∙◌, arith, rules}
 use Rattle.words.specs.declared.word.Word.{Word}
 use Rattle.words.specs.Words.{meant}
-use Rattle.grammar.specs.Grammar.{first, sheet}
+use Rattle.grammar.specs.Grammar.{sheet}
 use Rattle.grammar.specs.Machine as M
-use Rattle.reader.specs.Text.{seen_as, seen, token, at}
+use Rattle.reader.specs.Text.{seen_as, at}
 use Rattle.reader.specs.Read.{judged}
-use Rattle.reader.proofs.Steps.{from_at, pass, begin_word, declare_word, end_word}
-use Rattle.reader.proofs.Laid.{listed_first, refused_in}
-use Rattle.reader.proofs.Whole.{short, opening_refused, opened, sheet_refused, past_word, laid_whole}
+use Rattle.reader.proofs.Whole.{short, sheet_refused, past_word, laid_whole}
 use Rattle.reader.proofs.read.sheet.Goals as goal
 
 pub returns-in_err-declared : goal.returns-in_err-declared

@@ -1,14 +1,14 @@
-use Rattle.std.proofs.Common.{◌≡◌, ℕ, ◌+◌, ◌-◌, ◌<◌, List, [], ◌∷◌, ◌++◌, sym, refl, ap, ◌∙◌, subst, arith, rules}
+use Rattle.std.proofs.Common.{◌+◌, ◌-◌, List, [], ◌∷◌, sym, ap, ◌∙◌, arith, rules}
 use Rattle.words.specs.Words.{meant}
 use Rattle.nodes.specs.declared.node.Node.{Node}
 use Rattle.nodes.specs.Nodes.{node}
-use Rattle.grammar.specs.Grammar.{Tree, Semicolon, assign, choose, loop, none, more}
+use Rattle.grammar.specs.Grammar.{assign}
 use Rattle.grammar.specs.Machine as M
 use Rattle.reader.specs.Text.{token, at}
-use Rattle.reader.specs.Layout.{number_in, size, lay, write}
-use Rattle.reader.proofs.Steps.{pass, then_word, else_word, fi_word, do_word, od_word, becomes_word, semicolon_at, no_semicolon_at, assigned_too, closing_after}
-use Rattle.reader.proofs.Laid.{laid_two, laid_choice, laid_assign, refused_in, ends_by}
-use Rattle.reader.proofs.Stated.{if_reads, while_reads, part, name_reads, nothing_reads, behind_word}
+use Rattle.reader.specs.Layout.{number_in, lay, write}
+use Rattle.reader.proofs.Steps.{pass, becomes_word, assigned_too}
+use Rattle.reader.proofs.Laid.{laid_assign, refused_in}
+use Rattle.reader.proofs.Stated.{part, name_reads}
 use Rattle.reader.proofs.statement.assignment.Goals as goal
 
 pub returns-in_err-becomes : goal.returns-in_err-becomes

@@ -1,4 +1,4 @@
-use Rattle.std.proofs.Common.{◌≡◌, ◌+◌, ◌≤◌, arith, rules}
+use Rattle.std.proofs.Common.{◌+◌, ◌≤◌, rules}
 use Rattle.words.specs.Bytes.{alnum, runs_to}
 use Rattle.words.proofs.Spelled.{run_some}
 use Rattle.words.proofs.scan.name_at.Goals as goal

@@ -1,5 +1,5 @@
-use Rattle.std.proofs.Common.{◌≡◌, ◌+◌, ◌-◌, ◌*◌, ◌<◌, ◌≤◌, get_or, drop, sym, ap, ◌∙◌, arith, rules}
-use Rattle.words.specs.Words.{value, largest}
+use Rattle.std.proofs.Common.{◌+◌, ◌-◌, ◌*◌, get_or, drop, sym, ap, ◌∙◌, arith, rules}
+use Rattle.words.specs.Words.{value}
 use Rattle.words.proofs.Value.{value_grows, value_more, value_all, limited_some, limited_none, limited_above}
 use Rattle.words.proofs.scan.value_of.Goals as goal
 

@@ -9,7 +9,7 @@ use Rattle.words.proofs.Runs.{run_le}
 use Rattle.words.proofs.Spelled.{word_none}
 use Rattle.words.proofs.Reading.{taken}
 use Rattle.grammar.specs.Grammar.{Fixed, Begin, End, Declare, Integer, String, If, Then, Else, Fi, While, Do, Od, Open, Close, Plus, Semicolon, Comma, Join, Colon, Becomes, Part, Token, fixed, name, number, text, integer, string, Tree, constant, letters, assign, choose, loop, none, more, sheet}
-use Rattle.grammar.specs.Machine.{code, same, Around, whole, taken as then-taken, left, body, Before, start, sum, chain, For, value, test, guard, group, Given, nothing_yet, given, declare, State, empty, begun, naming, typing, sorting, declared, series, closing, becoming, done, term, tail, leaving, over, Move, go, no, when, or, with, close, finish, leave, on_fixed, on_name, on_leaf, feed, place, stop, Answer, read, fault, Whole, is, not, whole_of, refused, ended}
+use Rattle.grammar.specs.Machine.{code, same, Around, whole, taken as then_taken, left, body, Before, start, sum, chain, For, value, test, guard, group, Given, nothing_yet, given, declare, State, empty, begun, naming, typing, sorting, declared, series, closing, becoming, done, term, tail, leaving, over, Move, go, no, when, or, with, close, finish, leave, on_fixed, on_name, on_leaf, feed, place, stop, Answer, read, fault, Whole, is, not, whole_of, refused, ended}
 use Rattle.grammar.specs.Machine as M
 use Rattle.grammar.specs.Scan.{Found, word, nothing_left, wrong}
 use Rattle.grammar.proofs.Scan.{at_word, at_refused, at_stop, at_wrong}
@@ -96,10 +96,10 @@ pub record Only (w : Fixed) (s x : State) : Type 0 where
   pub leaf : (e : Tree) → on_leaf s e ≡ no
   pub more_to_come : whole_of s ≡ not
 
-pub then_word : (o : Around) (e : Tree) → Only Then (leaving (test o) e) (series (then-taken e o))
+pub then_word : (o : Around) (e : Tree) → Only Then (leaving (test o) e) (series (then_taken e o))
 then_word o e = record { word_is = λ v. refl; named = λ n. refl; leaf = λ t. refl; more_to_come = refl }
 
-pub else_word : (o : Around) (e a : Tree) → Only Else (closing (then-taken e o) a) (series (left e a o))
+pub else_word : (o : Around) (e a : Tree) → Only Else (closing (then_taken e o) a) (series (left e a o))
 else_word o e a = record { word_is = λ v. refl; named = λ n. refl; leaf = λ t. refl; more_to_come = refl }
 
 pub fi_word : (o : Around) (e a b : Tree) → Only Fi (closing (left e a o) b) (done o (choose e a b))

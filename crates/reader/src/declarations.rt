@@ -4,7 +4,7 @@ ghost use Rattle.spelling.specs.declared.Entry.{Entry};
 ghost use Rattle.words.specs.Words.{Stands};
 ghost use Rattle.nodes.specs.declared.node.Node.{Node};
 ghost use Rattle.grammar.specs.Grammar.{Tree};
-ghost use Rattle.reader.specs.Text.{token as token-of};
+ghost use Rattle.reader.specs.Text.{token as token_of};
 ghost use Rattle.reader.specs.Parts.{Space, PastSeries, TypedAs, DeclaredAs, Listed, ListedAs};
 
 use crate::names::Declared;
@@ -23,7 +23,7 @@ pub struct Typed<'a> {
 fn kind<'a>(text: &'a [u8], token: Token<'a>) -> Result<Typed<'a>, Fault>
     requires { Stands text.now 0 token }
     ensures on { IfOk result (λ a. Stands text.now (token.entry.place + 1) a.token) }
-    ensures is { TypedAs text.now (token-of token.entry) result }
+    ensures is { TypedAs text.now (token_of token.entry) result }
 {
     if is(token, Fixed::Integer) {
         let next = step(text, token)?;
@@ -50,7 +50,7 @@ pub(crate) fn declaration<'a>(
 ) -> Result<Token<'a>, Fault>
     requires { Stands text.now 0 token × Space text.now token count }
     ensures on { IfOk result (λ w. Stands text.now (token.entry.place + 1) w) }
-    ensures is { DeclaredAs text.now (token-of token.entry) count out.old out.new table.old table.new result }
+    ensures is { DeclaredAs text.now (token_of token.entry) count out.old out.new table.old table.new result }
 {
     match token.word {
         Word::Name(_) => {
@@ -97,7 +97,7 @@ pub(crate) fn others<'a>(
 ) -> Result<Ahead<'a>, Fault>
     requires { Stands text.now 0 token × Space text.now token count }
     ensures on { IfOk result (λ a. Stands text.now token.entry.place a.token × (count ≤ a.count) × (a.count + 2 * token.entry.place ≤ count + 2 * a.token.place)) }
-    ensures is { (d : Tree) (xs : List Node) (es : List (Entry Declared)) → Listed d count xs out.old es table.old → ListedAs text.now d (token-of token.entry) xs out.new es table.new result }
+    ensures is { (d : Tree) (xs : List Node) (es : List (Entry Declared)) → Listed d count xs out.old es table.old → ListedAs text.now d (token_of token.entry) xs out.new es table.new result }
 {
     if is(token, Fixed::Comma) {
         let name = step(text, token)?;

@@ -4,8 +4,8 @@ ghost use Rattle.words.specs.Words.{Stands};
 ghost use Rattle.nodes.specs.declared.node.Node.{Node};
 ghost use Rattle.nodes.specs.Nodes.{node};
 ghost use Rattle.grammar.specs.Grammar.{Tree};
-ghost use Rattle.grammar.specs.Machine.{Before, For, term as open-term, tail, leaving, start, with};
-ghost use Rattle.reader.specs.Text.{token as token-of};
+ghost use Rattle.grammar.specs.Machine.{Before, For, term as open_term, tail, leaving, start, with};
+ghost use Rattle.reader.specs.Text.{token as token_of};
 ghost use Rattle.reader.specs.Layout.{halves, number_in, size, lay, write};
 ghost use Rattle.reader.specs.Parts.{leaf_of, joint_of, Room, MovesOn, ReadAs};
 
@@ -49,7 +49,7 @@ fn number(value: u32) -> Node
 // The node of the word in hand, where that is a term by itself.
 fn leaf(text: &[u8], names: &[Entry<Declared>], token: Token<'_>) -> Option<Node>
     requires { Stands text.now 0 token × (length text.now ≤ 4096) }
-    ensures { result ≡ leaf_of (number_in text.now names.now) (token-of token.entry) }
+    ensures { result ≡ leaf_of (number_in text.now names.now) (token_of token.entry) }
 {
     match token.word {
         Word::Name(_) => Some(variable(text, names, token.place, token.next)),
@@ -66,7 +66,7 @@ fn leaf(text: &[u8], names: &[Entry<Declared>], token: Token<'_>) -> Option<Node
 
 // The kind of node that the word in hand joins two terms by.
 fn joint(token: Token<'_>) -> Option<u8>
-    ensures { result ≡ joint_of (token-of token.entry) }
+    ensures { result ≡ joint_of (token_of token.entry) }
 {
     if is(token, Fixed::Plus) {
         Some(PLUS)
@@ -87,7 +87,7 @@ pub(crate) fn expression<'a>(
 ) -> Result<Ahead<'a>, Fault>
     requires { Stands text.now 0 token × Room text.now token count }
     ensures on { IfOk result (MovesOn text.now token.entry count) }
-    ensures is { ReadAs (open-term start) leaving text.now (token-of token.entry) (number_in text.now names.now) count out.old out.new result }
+    ensures is { ReadAs (open_term start) leaving text.now (token_of token.entry) (number_in text.now names.now) count out.old out.new result }
 {
     let first = term(text, names, token, out, count)?;
     more(text, names, first, out)
@@ -103,7 +103,7 @@ fn more<'a>(
 ) -> Result<Ahead<'a>, Fault>
     requires { Stands text.now 0 left.token × Room text.now left.token left.count × (1 ≤ left.count) }
     ensures on { IfOk result (λ a. Stands text.now left.entry.token.place a.token × (left.entry.count ≤ a.count) × (a.count + left.entry.token.place ≤ left.entry.count + a.token.place)) }
-    ensures is { (e : Tree) (n : ℕ) (xs : List Node) → left.entry.count ≡ n + size e → out.old ≡ write xs n (lay (number_in text.now names.now) n e) → ReadAs (λ f. tail f e) leaving text.now (token-of left.entry.token) (number_in text.now names.now) n xs out.new result }
+    ensures is { (e : Tree) (n : ℕ) (xs : List Node) → left.entry.count ≡ n + size e → out.old ≡ write xs n (lay (number_in text.now names.now) n e) → ReadAs (λ f. tail f e) leaving text.now (token_of left.entry.token) (number_in text.now names.now) n xs out.new result }
 {
     match joint(left.token) {
         None => Ok(left),
@@ -135,7 +135,7 @@ fn operand<'a>(
 ) -> Result<Ahead<'a>, Fault>
     requires { Stands text.now 0 token × Room text.now token count }
     ensures on { IfOk result (MovesOn text.now token.entry count) }
-    ensures is { ReadAs {C = Before × For} (λ c. open-term c.0 c.1) (λ c e. tail c.1 (with c.0 e)) text.now (token-of token.entry) (number_in text.now names.now) count out.old out.new result }
+    ensures is { ReadAs {C = Before × For} (λ c. open_term c.0 c.1) (λ c e. tail c.1 (with c.0 e)) text.now (token_of token.entry) (number_in text.now names.now) count out.old out.new result }
 {
     term(text, names, token, out, count)
 }
@@ -151,7 +151,7 @@ fn term<'a>(
 ) -> Result<Ahead<'a>, Fault>
     requires { Stands text.now 0 token × Room text.now token count }
     ensures on { IfOk result (MovesOn text.now token.entry count) }
-    ensures is { ReadAs {C = Before × For} (λ c. open-term c.0 c.1) (λ c e. tail c.1 (with c.0 e)) text.now (token-of token.entry) (number_in text.now names.now) count out.old out.new result }
+    ensures is { ReadAs {C = Before × For} (λ c. open_term c.0 c.1) (λ c e. tail c.1 (with c.0 e)) text.now (token_of token.entry) (number_in text.now names.now) count out.old out.new result }
 {
     match leaf(text, names, token) {
         Some(node) => {

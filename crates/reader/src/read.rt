@@ -3,9 +3,9 @@ ghost use Rattle.std.specs.Prelude.{◌≡◌, ◌*◌, ◌≤◌, min, length, 
 ghost use Rattle.words.specs.Words.{Stands};
 ghost use Rattle.nodes.specs.Limits.{most_letters};
 ghost use Rattle.nodes.specs.Nodes.{blank};
-ghost use Rattle.grammar.specs.Grammar.{Tree, sheet as sheet-tree};
-ghost use Rattle.grammar.specs.Machine.{series as open-series, whole, over};
-ghost use Rattle.reader.specs.Text.{token as token-of};
+ghost use Rattle.grammar.specs.Grammar.{Tree, sheet as sheet_tree};
+ghost use Rattle.grammar.specs.Machine.{series as open_series, whole, over};
+ghost use Rattle.reader.specs.Text.{token as token_of};
 ghost use Rattle.reader.specs.Layout.{number_in};
 ghost use Rattle.reader.specs.Parts.{Space, ReadAs};
 ghost use Rattle.reader.specs.Sheet.{OpenedAs, SheetAs, FilledAs};
@@ -59,7 +59,7 @@ fn body<'a>(
     out: &mut [Node],
 ) -> Result<Ahead<'a>, Fault>
     requires { Stands text.now 0 declared.token × Space text.now declared.token declared.count }
-    ensures { ReadAs {C = Tree} (λ d. open-series (whole d)) (λ d a. over (sheet-tree d a)) text.now (token-of declared.entry.token) (number_in text.now names.now) declared.entry.count out.old out.new result }
+    ensures { ReadAs {C = Tree} (λ d. open_series (whole d)) (λ d a. over (sheet_tree d a)) text.now (token_of declared.entry.token) (number_in text.now names.now) declared.entry.count out.old out.new result }
 {
     let all = series(text, names, declared.token, out, declared.count)?;
     let next = expect(text, all.token, Fixed::End)?;

@@ -2,8 +2,8 @@
 ghost use Rattle.std.specs.Prelude.{◌≡◌, true, IfOk};
 ghost use Rattle.words.specs.Words.{Stands};
 ghost use Rattle.grammar.specs.Grammar.{Tree, more};
-ghost use Rattle.grammar.specs.Machine.{series as open-series, closing, done};
-ghost use Rattle.reader.specs.Text.{token as token-of};
+ghost use Rattle.grammar.specs.Machine.{series as open_series, closing, done};
+ghost use Rattle.reader.specs.Text.{token as token_of};
 ghost use Rattle.reader.specs.Layout.{number_in};
 ghost use Rattle.reader.specs.Parts.{start_of, begins, Space, PastStatement, PastSeries, ReadAs};
 
@@ -24,7 +24,7 @@ pub enum Start {
 }
 
 fn begins_with(token: Token<'_>) -> Start
-    ensures { result ≡ start_of (token-of token.entry) }
+    ensures { result ≡ start_of (token_of token.entry) }
 {
     match token.word {
         Word::Name(_) => Start::Assignment,
@@ -57,9 +57,9 @@ fn assignment<'a>(
     out: &mut [Node],
     count: u16,
 ) -> Result<Ahead<'a>, Fault>
-    requires { Stands text.now 0 token × Space text.now token count × (start_of (token-of token) ≡ Start.Assignment) }
+    requires { Stands text.now 0 token × Space text.now token count × (start_of (token_of token) ≡ Start.Assignment) }
     ensures on { IfOk result (PastStatement text.now token.entry count) }
-    ensures is { ReadAs open-series done text.now (token-of token.entry) (number_in text.now names.now) count out.old out.new result }
+    ensures is { ReadAs open_series done text.now (token_of token.entry) (number_in text.now names.now) count out.old out.new result }
 {
     put(out, count, variable(text, names, token.place, token.next));
     let becomes = step(text, token)?;
@@ -90,9 +90,9 @@ fn choice<'a>(
     out: &mut [Node],
     count: u16,
 ) -> Result<Ahead<'a>, Fault>
-    requires { Stands text.now 0 token × Space text.now token count × (start_of (token-of token) ≡ Start.Choice) }
+    requires { Stands text.now 0 token × Space text.now token count × (start_of (token_of token) ≡ Start.Choice) }
     ensures on { IfOk result (PastStatement text.now token.entry count) }
-    ensures is { ReadAs open-series done text.now (token-of token.entry) (number_in text.now names.now) count out.old out.new result }
+    ensures is { ReadAs open_series done text.now (token_of token.entry) (number_in text.now names.now) count out.old out.new result }
 {
     let start = expect(text, token, Fixed::If)?;
     let test = expression(text, names, start, out, count)?;
@@ -126,9 +126,9 @@ fn repeat<'a>(
     out: &mut [Node],
     count: u16,
 ) -> Result<Ahead<'a>, Fault>
-    requires { Stands text.now 0 token × Space text.now token count × (start_of (token-of token) ≡ Start.Repeat) }
+    requires { Stands text.now 0 token × Space text.now token count × (start_of (token_of token) ≡ Start.Repeat) }
     ensures on { IfOk result (PastStatement text.now token.entry count) }
-    ensures is { ReadAs open-series done text.now (token-of token.entry) (number_in text.now names.now) count out.old out.new result }
+    ensures is { ReadAs open_series done text.now (token_of token.entry) (number_in text.now names.now) count out.old out.new result }
 {
     let start = expect(text, token, Fixed::While)?;
     let test = expression(text, names, start, out, count)?;
@@ -150,9 +150,9 @@ fn statement<'a>(
     out: &mut [Node],
     count: u16,
 ) -> Result<Ahead<'a>, Fault>
-    requires { Stands text.now 0 token × Space text.now token count × (begins (start_of (token-of token)) ≡ true) }
+    requires { Stands text.now 0 token × Space text.now token count × (begins (start_of (token_of token)) ≡ true) }
     ensures on { IfOk result (PastStatement text.now token.entry count) }
-    ensures is { ReadAs open-series done text.now (token-of token.entry) (number_in text.now names.now) count out.old out.new result }
+    ensures is { ReadAs open_series done text.now (token_of token.entry) (number_in text.now names.now) count out.old out.new result }
 {
     match begins_with(token) {
         Start::Choice => choice(text, names, token, out, count),
@@ -172,7 +172,7 @@ fn rest<'a>(
 ) -> Result<Ahead<'a>, Fault>
     requires { Stands text.now 0 token × Space text.now token count }
     ensures on { IfOk result (PastSeries text.now token.entry count) }
-    ensures is { (s : Tree) → ReadAs (λ o. done o s) (λ o a. closing o (more s a)) text.now (token-of token.entry) (number_in text.now names.now) count out.old out.new result }
+    ensures is { (s : Tree) → ReadAs (λ o. done o s) (λ o a. closing o (more s a)) text.now (token_of token.entry) (number_in text.now names.now) count out.old out.new result }
 {
     if is(token, Fixed::Semicolon) {
         let next = step(text, token)?;
@@ -196,7 +196,7 @@ pub(crate) fn series<'a>(
 ) -> Result<Ahead<'a>, Fault>
     requires { Stands text.now 0 token × Space text.now token count }
     ensures on { IfOk result (PastSeries text.now token.entry count) }
-    ensures is { ReadAs open-series closing text.now (token-of token.entry) (number_in text.now names.now) count out.old out.new result }
+    ensures is { ReadAs open_series closing text.now (token_of token.entry) (number_in text.now names.now) count out.old out.new result }
 {
     match begins_with(token) {
         Start::Other => {

@@ -3,10 +3,10 @@ ghost use Rattle.std.specs.Prelude.{◌≡◌, ◌+◌, ◌-◌, ◌<◌, ◌≤
 ghost use Rattle.words.specs.Words.{Stands, moves, meant};
 ghost use Rattle.grammar.specs.Machine.{same as same_word};
 ghost use Rattle.grammar.specs.Scan.{wrong};
-ghost use Rattle.reader.specs.Text.{found, token as token-of, outcome};
+ghost use Rattle.reader.specs.Text.{found, token as token_of, outcome};
 ghost use Rattle.reader.specs.Layout.{write};
 ghost use Rattle.nodes.specs.Nodes.{node};
-ghost use Rattle.reader.specs.Parts.{is_word, unexpected as unexpected-at, behind, expected};
+ghost use Rattle.reader.specs.Parts.{is_word, unexpected as unexpected_at, behind, expected};
 
 use nodes::node::Node;
 use words::next_word;
@@ -27,7 +27,7 @@ pub(crate) fn same(a: Fixed, b: Fixed) -> bool
 
 // Whether the word in hand is this fixed one.
 pub(crate) fn is(token: Token<'_>, wanted: Fixed) -> bool
-    ensures { result ≡ is_word wanted (token-of token.entry) }
+    ensures { result ≡ is_word wanted (token_of token.entry) }
 {
     match token.word {
         Word::Fixed(w) => same(w, wanted),
@@ -46,7 +46,7 @@ pub(crate) fn step<'a>(text: &'a [u8], token: Token<'a>) -> Result<Token<'a>, Fa
 
 // Refused at the word in hand: it is not allowed, or the text ends early.
 pub(crate) fn unexpected(token: Token<'_>) -> Fault
-    ensures { wrong result.refusal result.place ≡ unexpected-at (token-of token.entry) }
+    ensures { wrong result.refusal result.place ≡ unexpected_at (token_of token.entry) }
 {
     let place = token.place;
     match token.word {
@@ -68,7 +68,7 @@ pub(crate) fn expect<'a>(
     wanted: Fixed,
 ) -> Result<Token<'a>, Fault>
     requires { Stands text.now 0 token }
-    ensures is { outcome result ≡ expected text.now wanted (token-of token.entry) }
+    ensures is { outcome result ≡ expected text.now wanted (token_of token.entry) }
     ensures on { IfOk result (λ w. Stands text.now (token.entry.place + 1) w) }
 {
     if is(token, wanted) {

@@ -1,7 +1,7 @@
 // The scanner: the word at a place, or its fault.
 ghost use Rattle.std.specs.Prelude.{◌≡◌, ◌+◌, ◌-◌, ◌*◌, ◌<◌, ◌≤◌, min, true, length, IfOk, Ok, ◌==◌, slice_index};
 ghost use Rattle.words.specs.Bytes.{alnum, digit};
-ghost use Rattle.words.specs.Words.{told, meant, moves, Stands, keyword, named as named-as, largest, value, limited, name_at, number_at, text_at, word_at, after};
+ghost use Rattle.words.specs.Words.{told, meant, moves, Stands, keyword, named as named_as, largest, value, limited, name_at, number_at, text_at, word_at, after};
 
 use crate::byte::{Class, run_end};
 use crate::name::keyword_of;
@@ -15,7 +15,7 @@ pub const LARGEST: u64 = 4294967295;
 
 // A run of letters and digits: a keyword, or else a name.
 fn named<'a>(spelling: &'a [u8], place: usize, next: usize) -> Token<'a>
-    ensures is { meant result.word ≡ named-as spelling.now (keyword spelling.now) }
+    ensures is { meant result.word ≡ named_as spelling.now (keyword spelling.now) }
     ensures at { (result.place ≡ place) × (result.next ≡ next) × (moves (meant result.word) ≡ 1) }
 {
     match keyword_of(spelling) {

@@ -20,7 +20,7 @@ pub record Performed (sh : Sheet) (R : ℕ) (calls : List Call) (given : List An
   -- each answer is the semantics', fed the same calls
   pub answers : take (length calls) given ≡ all_answers true sh R calls (begun sh)
   pub values : vs ≡ (all_after true sh R calls (begun sh)).values
-  -- kept, stops, ended, goes-on, counted, portions: at every moment of the succession
+  -- kept, stops, ended, goes_on, counted, portions: at every moment of the succession
   pub lawful : Lawful sh R calls
   -- beats reported since the latest Start or Rewind are the smaller of those granted and those that the sheet has
   pub counted : (h : ℕ) → Has sh R h → reported 0 (take (length calls) given) ≡ min (granted 0 calls) h

@@ -10,7 +10,7 @@ use Rattle.deck.specs.Load.{load_says}
 use Rattle.deck.proofs.Accepted.{same_load}
 use Rattle.card.specs.declared.refusal.CardRefusal.{CardRefusal}
 use Rattle.card.specs.declared.unpack.Sizes.{Sizes}
-use Rattle.card.specs.declared.judge.Verdict.TheVariants as V
+use Rattle.card.specs.declared.flaw.Flaw.TheVariants as F
 use Rattle.card.specs.Calls.{roomy, unpacked, sizes_of, sizes_told, nodes_left, letters_left, loaded, verdict_of}
 use Rattle.card.specs.Card.{sizes_in, sheet_from, sheet_in}
 use Rattle.card.proofs.Opening.{right, room_is}
@@ -27,9 +27,9 @@ ample card = by (sizes_in card) refl
         ∙ cond-true (leb s.n most_nodes && leb s.t most_letters) _ _ (and_from (leb s.n most_nodes) (leb s.t most_letters) (le-leb _ _ f.n_few) (le-leb _ _ f.t_few))
         ∙ ap (sheet_from card) q
 
-pub of_card : (x : Result Sheet CardRefusal) (e : CardRefusal) → Err e ≡ sizes_told x → V.Card e ≡ verdict_of x
+pub of_card : (x : Result Sheet CardRefusal) (e : CardRefusal) → Err e ≡ sizes_told x → Err (F.Card e) ≡ verdict_of x
 of_card (Ok sh) e q = let z : ◌≡◌ {A = ℕ} 0 1 = cc in absurd (omega arith)
-of_card (Err d) e q = let z : e ≡ d = cc in ap V.Card z
+of_card (Err d) e q = let z : e ≡ d = cc in ap (λ y. Err (F.Card y)) z
 
 -- the sheet in buffers that are filled from its front
 pub of_sheet : (x : Result Sheet CardRefusal) (s : Sizes) (m l : ℕ) (ns : List Node) (ls ks : List ℕ) (r : Result (Unit {0}) Fault)

@@ -4,15 +4,14 @@ use Rattle.nodes.specs.declared.node.Node.{Node}
 use Rattle.nodes.specs.Nodes.{Sheet, blank}
 use Rattle.deck.specs.declared.fault.Fault.{Fault}
 use Rattle.deck.specs.Load.{load_says}
-use Rattle.deck.specs.Refusals.{number_of as sheet_number}
 use Rattle.card.specs.declared.refusal.CardRefusal.{CardRefusal}
 use Rattle.card.specs.declared.refusal.CardRefusal.TheVariants as R
 use Rattle.card.specs.declared.unpack.Sizes.{Sizes}
 use Rattle.card.specs.declared.unpack.Opened.{Opened}
-use Rattle.card.specs.declared.unpack.Parts.{Parts}
-use Rattle.card.specs.declared.judge.Verdict.{Verdict}
-use Rattle.card.specs.declared.judge.Verdict.TheVariants as V
-use Rattle.card.specs.Refusals.{number_of}
+use Rattle.card.specs.declared.parts.Parts.{Parts}
+use Rattle.card.specs.declared.flaw.Flaw.{Flaw}
+use Rattle.card.specs.declared.flaw.Flaw.TheVariants as F
+use Rattle.card.specs.Refusals.{flaw_number}
 use Rattle.card.specs.Card.{card_of, nodes_by, sheet_in}
 
 -- Pack's answer, where the buffer has m bytes
@@ -65,18 +64,17 @@ parts_told (Ok p) = Ok (sheet_from_parts p)
 parts_told (Err e) = Err e
 
 -- what is said of a card: of itself, or by Load of its sheet
-abbrev pub loaded : Result (Unit {0}) Fault → Verdict
-loaded (Ok u) = V.Accepted
-loaded (Err f) = V.Sheet f.refusal
+abbrev pub loaded : Result (Unit {0}) Fault → Result (Unit {0}) Flaw
+loaded (Ok u) = Ok tt
+loaded (Err f) = Err (F.Sheet f.refusal)
 
-abbrev pub verdict_of : Result Sheet CardRefusal → Verdict
+abbrev pub verdict_of : Result Sheet CardRefusal → Result (Unit {0}) Flaw
 verdict_of (Ok sh) = loaded (load_says sh.letters sh.nodes (length sh.nodes) sh.variables)
-verdict_of (Err e) = V.Card e
+verdict_of (Err e) = Err (F.Card e)
 
-abbrev pub answer : Verdict → ℕ
-answer V.Accepted = 0
-answer (V.Card e) = number_of e
-answer (V.Sheet e) = sheet_number e
+abbrev pub answer : Result (Unit {0}) Flaw → ℕ
+answer (Ok u) = 0
+answer (Err e) = flaw_number e
 
 -- Judge's answer
 abbrev pub judge_says : List ℕ → ℕ

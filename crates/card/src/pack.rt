@@ -1,7 +1,6 @@
 // Pack: a deck's sheet as a card.
-ghost use Rattle.std.specs.Prelude.{◌≡◌, ◌+◌, ◌*◌, ◌/◌, ◌%◌, ◌≤◌, ◌++◌, map, length, drop};
+ghost use Rattle.std.specs.Prelude.{◌≡◌, ◌*◌, ◌≤◌, ◌++◌, map, length, drop};
 ghost use Rattle.std.specs.List.{flat_map};
-ghost use Rattle.std.proofs.Math.Seq.{paste};
 ghost use Rattle.deck.specs.Sheets.{sheet_of};
 ghost use Rattle.card.specs.Calls.{pack_says, packed};
 ghost use Rattle.card.specs.Card.{triple as triple_of, fields_of, card_of};
@@ -10,31 +9,24 @@ use crate::refusal::CardRefusal;
 use deck::deck::Deck;
 use nodes::node::Node;
 
-fn low(x: u16) -> u8
-    ensures { result ≡ x % 256 }
-{
-    (x % 256) as u8
-}
-
-fn high(x: u16) -> u8
-    ensures { result ≡ x / 256 }
-{
-    (x / 256) as u8
-}
-
 // Three numbers, low byte first.
 fn triple(a: u16, b: u16, c: u16) -> [u8; 6]
     ensures { result ≡ triple_of a b c }
 {
-    [low(a), high(a), low(b), high(b), low(c), high(c)]
+    let [a0, a1] = a.to_le_bytes();
+    let [b0, b1] = b.to_le_bytes();
+    let [c0, c1] = c.to_le_bytes();
+    [a0, a1, b0, b1, c0, c1]
 }
 
+// Stays: beside `fill_fields`, since a kind is a byte and the fields are six; one function for both would be longer than the two.
+// Stays: by place, here and in `fill_fields`, since a proof knows nothing of what is written by a `zip` of `iter_mut` or by `chunks_exact_mut`.
 fn fill_kinds(out: &mut [u8], nodes: &[Node])
     requires { length out.old ≡ length nodes.now }
     ensures { out.new ≡ map (λ x. x.kind) nodes.now }
 {
-    for i in 0..nodes.len() {
-        out[i] = nodes[i].kind;
+    for (i, x) in nodes.iter().enumerate() {
+        out[i] = x.kind;
     }
 }
 
@@ -42,34 +34,9 @@ fn fill_fields(out: &mut [u8], nodes: &[Node])
     requires { length out.old ≡ 6 * length nodes.now }
     ensures { out.new ≡ flat_map fields_of nodes.now }
 {
-    for i in 0..nodes.len() {
-        let x = nodes[i];
+    for (i, x) in nodes.iter().enumerate() {
         out[6 * i..6 * i + 6].copy_from_slice(&triple(x.a, x.b, x.c));
     }
-}
-
-fn put(out: &mut [u8], at: usize, bytes: &[u8])
-    requires { at + length bytes.now ≤ length out.old }
-    ensures after { out.new ≡ paste out.old at bytes.now (length bytes.now) }
-    ensures len { length out.new ≡ length out.old }
-{
-    out[at..at + bytes.len()].copy_from_slice(bytes);
-}
-
-fn put_kinds(out: &mut [u8], at: usize, nodes: &[Node])
-    requires { at + length nodes.now ≤ length out.old }
-    ensures after { out.new ≡ paste out.old at (map (λ x. x.kind) nodes.now) (length nodes.now) }
-    ensures len { length out.new ≡ length out.old }
-{
-    fill_kinds(&mut out[at..at + nodes.len()], nodes);
-}
-
-fn put_fields(out: &mut [u8], at: usize, nodes: &[Node])
-    requires { at + 6 * length nodes.now ≤ length out.old }
-    ensures after { out.new ≡ paste out.old at (flat_map fields_of nodes.now) (6 * length nodes.now) }
-    ensures len { length out.new ≡ length out.old }
-{
-    fill_fields(&mut out[at..at + 6 * nodes.len()], nodes);
 }
 
 // How many bytes the card of a deck has.
@@ -87,14 +54,13 @@ fn write(deck: &Deck, out: &mut [u8])
     let nodes = deck.nodes();
     let letters = deck.letters();
     let n = nodes.len();
-    put(
-        out,
-        0,
-        &triple(n as u16, deck.variables() as u16, letters.len() as u16),
-    );
-    put_kinds(out, 6, nodes);
-    put_fields(out, 6 + n, nodes);
-    put(out, 6 + 7 * n, letters);
+    let (sizes, rest) = out.split_at_mut(6);
+    let (kinds, rest) = rest.split_at_mut(n);
+    let (fields, rest) = rest.split_at_mut(6 * n);
+    sizes.copy_from_slice(&triple(n as u16, deck.variables() as u16, letters.len() as u16));
+    fill_kinds(kinds, nodes);
+    fill_fields(fields, nodes);
+    rest[..letters.len()].copy_from_slice(letters);
 }
 
 // Pack: writes the deck's card and answers its length. What stands behind it stays, and a buffer that is too short stays as it was.

@@ -2,18 +2,30 @@
 ghost use Rattle.std.specs.Prelude.{◌≡◌};
 ghost use Rattle.card.specs.Refusals.{number_of};
 
-#[derive(Clone, Copy)]
+use std::error::Error;
+use std::fmt;
+
+// A refusal, with the number by which it is known.
+#[derive(Clone, Copy, PartialEq, Eq, Hash, Debug)]
 pub enum CardRefusal {
     // A card has fewer bytes than its sizes take.
-    NoSizes,
+    NoSizes = 30,
     // Its sizes are out of range.
-    Sizes,
+    Sizes = 31,
     // Its length is not that of its sizes.
-    Length,
+    Length = 32,
     // Fewer nodes or letters are given than the card has.
-    FewPlaces,
+    FewPlaces = 33,
     // The buffer is shorter than the card.
-    ShortBuffer,
+    ShortBuffer = 34,
+}
+
+impl From<CardRefusal> for u8 {
+    ghost from_gives = { λ refusal result. result ≡ number_of refusal };
+
+    fn from(refusal: CardRefusal) -> u8 {
+        refusal as u8
+    }
 }
 
 impl CardRefusal {
@@ -21,12 +33,21 @@ impl CardRefusal {
     pub fn number(self) -> u8
         ensures { result ≡ number_of self }
     {
-        match self {
-            CardRefusal::NoSizes => 30,
-            CardRefusal::Sizes => 31,
-            CardRefusal::Length => 32,
-            CardRefusal::FewPlaces => 33,
-            CardRefusal::ShortBuffer => 34,
-        }
+        self.into()
     }
 }
+
+// What a refusal means, for a person.
+impl fmt::Display for CardRefusal {
+    fn fmt<W: fmt::Write>(&self, f: &mut fmt::Formatter<W>) -> fmt::Result {
+        f.write_str(match self {
+            CardRefusal::NoSizes => "the card is too short to have sizes",
+            CardRefusal::Sizes => "the card's sizes are out of bounds",
+            CardRefusal::Length => "the card has another length than its sizes ask for",
+            CardRefusal::FewPlaces => "there are too few places for the card's nodes or letters",
+            CardRefusal::ShortBuffer => "there is too little place for the card",
+        })
+    }
+}
+
+impl Error for CardRefusal {}

@@ -1,6 +1,7 @@
 -- What is known of an accepted sheet.
-use Rattle.std.proofs.Common.{◌≡◌, ℕ, ◌-◌, ◌<◌, ◌≤◌, Bool, true, false, cond, ◌&&◌, ltb, leb, List, length, take, is_ok as isOk, Ok, Err, Result, sym, refl, ap, ◌∙◌, zero-le, arith}
+use Rattle.std.proofs.Common.{◌≡◌, ℕ, ◌-◌, ◌<◌, ◌≤◌, Bool, true, false, cond, ◌&&◌, ltb, leb, List, length, take, is_ok as isOk, Ok, Err, Result, sym, refl, ap, ◌∙◌, zero-le, arith, length-take}
 use Rattle.std.proofs.lemmas.Bool.{false≢true, leb-true, ltb-true, le-leb, and_parts}
+use Rattle.std.proofs.lemmas.List.{take-take}
 use Rattle.nodes.specs.declared.node.Node.{Node}
 use Rattle.nodes.specs.Limits.{most_nodes, most_letters, most_variables}
 use Rattle.deck.specs.declared.fault.Fault.{Fault}
@@ -10,6 +11,8 @@ use Rattle.deck.specs.declared.fault.Refusal.TheVariants as R
 use Rattle.deck.specs.Accepts.{Sizes}
 use Rattle.deck.specs.Rules.{taken, ensured}
 use Rattle.deck.specs.Load.{first, judged, whole, sizes_fit, sheet_says, load_says}
+use Rattle.nodes.specs.Trees.{decode}
+use Rattle.deck.specs.Sheets.{blank_sheet}
 use Rattle.deck.proofs.Scan.{holds, both, on_parts, first_none}
 use Rattle.deck.proofs.Clean.{Clean, clean}
 
@@ -50,9 +53,19 @@ same_load ls ns ms n v h k e =
     ∙ ap (λ xs. cond (sizes_fit (length ls) (length ms) n v) (sheet_says ls xs n v) none) e
 
 -- a sheet that was accepted is accepted where it is copied to
-pub copied : (ls ks : List ℕ) (ns cs : List Node) (n v : ℕ) → isOk (load_says ls ns n v) ≡ true → ks ≡ ls → take n cs ≡ take n ns → n ≤ length cs → isOk (load_says ks cs n v) ≡ true
-copied ls ks ns cs n v q e f h =
-    ap (λ xs. isOk (load_says xs cs n v)) e ∙ ap isOk (same_load ls cs ns n v h (sizes (length ls) (length ns) n v (accepted ls ns n v q).0).n_given f) ∙ q
+pub copied : (ls ks : List ℕ) (ns ms : List Node) (v : ℕ) → Ok tt ≡ load_says ls ns (length ns) v → ks ≡ ls → ms ≡ ns → isOk (load_says ks ms (length ms) v) ≡ true
+copied ls ks ns ms v q e f = ap (λ xs. isOk (load_says xs ms (length ms) v)) e ∙ ap (λ xs. isOk (load_says ls xs (length xs) v)) f ∙ sym (ap isOk q)
+
+-- and by itself, without the nodes behind it
+pub front : (ls : List ℕ) (ns : List Node) (n v : ℕ) → Ok tt ≡ load_says ls ns n v → Ok tt ≡ load_says ls (take n ns) (length (take n ns)) v
+front ls ns n v q =
+    let h = (sizes (length ls) (length ns) n v (accepted ls ns n v (sym (ap isOk q))).0).n_given in
+    let e : length (take n ns) ≡ n = simp length-take (omega arith) in
+    q ∙ same_load ls ns (take n ns) n v h (omega arith) (sym (take-take n n ns (omega arith))) ∙ ap (λ m. load_says ls (take n ns) m v) (sym e)
+
+pub blank_loads : (ls : List ℕ) (ns : List Node) → ls ≡ blank_sheet.letters → ns ≡ blank_sheet.nodes → isOk (load_says ls ns (length ns) 1) ≡ true
+unfolding decode
+blank_loads ls ns e f = copied blank_sheet.letters ls blank_sheet.nodes ns 1 refl e f
 
 module _ (ls : List ℕ) (ns : List Node) (n v : ℕ) (ok : isOk (load_says ls ns n v) ≡ true) where
   pub fits : Sizes (length ls) (length ns) n v

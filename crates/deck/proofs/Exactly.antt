@@ -9,7 +9,7 @@ use Rattle.nodes.specs.Nodes.{node_at, view_at, arrows_of, all_lead, of_sort}
 use Rattle.nodes.specs.Trees.{tree, level, nest}
 use Rattle.deck.specs.declared.fault.Refusal.{Refusal}
 use Rattle.deck.specs.declared.fault.Refusal.TheVariants as R
-use Rattle.deck.specs.declared.rules.Binding.{Binding}
+use Rattle.nodes.specs.declared.binding.Binding.{Binding}
 use Rattle.deck.specs.Accepts.{arrows_to, name_at, Sizes, Rules, Exactly}
 use Rattle.deck.specs.Rules.{placed, inside, formed, taken, names, looked, original, declared, numbered, same_number, agree, ensured}
 use Rattle.deck.specs.Load.{naming, shape, judged, or_on, first, sizes_fit, sheet_says}

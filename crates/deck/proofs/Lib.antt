@@ -2,7 +2,6 @@ pub mod Scan
 pub mod Names
 pub mod Marks
 pub mod Clean
-pub mod Lists
 pub mod Accepted
 pub mod Arrows
 pub mod Declarations

@@ -8,7 +8,7 @@ use Rattle.spelling.specs.declared.Entry.{Entry}
 use Rattle.spelling.specs.Table.{spells, found, or_else}
 use Rattle.nodes.specs.declared.node.Node.{Node}
 use Rattle.nodes.specs.Nodes.{node_at}
-use Rattle.deck.specs.declared.rules.Binding.{Binding}
+use Rattle.nodes.specs.declared.binding.Binding.{Binding}
 use Rattle.deck.specs.Rules.{inside, spelled, entry, names}
 use Rattle.deck.proofs.Names.{names_size}
 

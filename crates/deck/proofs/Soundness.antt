@@ -14,7 +14,7 @@ use Rattle.nodes.specs.Nodes.{blank, node_at, view_as, view_of, view_at, arrow, 
 use Rattle.nodes.specs.Trees.{build, tree, nest}
 use Rattle.nodes.proofs.ByKind.{kind_is, by_kind}
 use Rattle.nodes.proofs.Grown.{lead_parts, tree_led}
-use Rattle.deck.specs.declared.rules.Binding.{Binding}
+use Rattle.nodes.specs.declared.binding.Binding.{Binding}
 use Rattle.deck.specs.Rules.{inside, spelled, worded, formed_as, looked, declared, numbered, same_number, names, agree}
 use Rattle.deck.specs.Sound.{kind_in, Leads, Holds, Right, Sound}
 use Rattle.deck.proofs.Clean.{Clean}

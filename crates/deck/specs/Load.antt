@@ -9,7 +9,7 @@ use Rattle.nodes.specs.Trees.{tree, level, nest}
 use Rattle.deck.specs.declared.fault.Fault.{Fault}
 use Rattle.deck.specs.declared.fault.Refusal.{Refusal}
 use Rattle.deck.specs.declared.fault.Refusal.TheVariants as R
-use Rattle.deck.specs.declared.rules.Binding.{Binding}
+use Rattle.nodes.specs.declared.binding.Binding.{Binding}
 use Rattle.deck.specs.Rules.{placed, formed, again, taken, leading_to, names, original, declared, numbered, agree, shallow, ensured}
 
 -- a first judgement, and where it refuses nothing a second

@@ -9,7 +9,7 @@ use Rattle.nodes.specs.declared.view.View.{View}
 use Rattle.nodes.specs.declared.view.View.TheVariants as V
 use Rattle.nodes.specs.Limits.{deepest_level, deepest_nest}
 use Rattle.nodes.specs.Nodes.{node_at, view_of, arrows_of, targets, type_of, integer, string}
-use Rattle.deck.specs.declared.rules.Binding.{Binding}
+use Rattle.nodes.specs.declared.binding.Binding.{Binding}
 
 -- the first v nodes are declarations and the others are of the other kinds
 abbrev pub placed : ℕ → ℕ → ℕ → Bool

@@ -6,7 +6,7 @@ use Rattle.deck.specs.declared.deck.Deck.{Deck}
 use Rattle.deck.specs.declared.fault.Fault.{Fault}
 
 abbrev pub sheet_of : Deck → Sheet
-sheet_of d = record { letters = take d.size d.letters; nodes = take d.count d.nodes; variables = d.declared }
+sheet_of d = record { letters = d.letters.items; nodes = d.nodes.items; variables = d.declared }
 
 -- the sheet that is given to Load
 abbrev pub given : List ℕ → List Node → ℕ → ℕ → Sheet

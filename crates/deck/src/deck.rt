@@ -1,19 +1,16 @@
 // The deck: a sheet that Load's rules accept, and nothing else.
-ghost use Rattle.std.specs.Prelude.{◌≡◌, ◌≤◌, true, take, is_ok};
-ghost use Rattle.nodes.specs.Limits.{most_letters};
+ghost use Rattle.std.specs.Prelude.{◌≡◌, true, length, is_ok};
 ghost use Rattle.deck.specs.Load.{load_says};
 
+use arrayvec::ArrayVec;
 use nodes::limits::{LETTERS, NODES};
 use nodes::node::Node;
 
 #[derive(Drop)]
 pub struct Deck {
-    pub(crate) nodes: [Node; NODES],
-    pub(crate) letters: [u8; LETTERS],
-    // How many nodes and letters are the sheet's, and how many nodes declare a variable.
-    pub(crate) count: usize,
+    pub(crate) nodes: ArrayVec<Node, NODES>,
+    pub(crate) letters: ArrayVec<u8, LETTERS>,
+    // How many of the nodes declare a variable.
     pub(crate) declared: usize,
-    pub(crate) size: usize,
-    ghost within: { size ≤ most_letters },
-    ghost loaded: { is_ok (load_says (take size letters) nodes count declared) ≡ true },
+    ghost loaded: { is_ok (load_says letters.items nodes.items (length nodes.items) declared) ≡ true },
 }

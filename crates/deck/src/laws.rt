@@ -2,8 +2,6 @@
 ghost use Rattle.deck.specs.Accepts.{Exactly};
 
 // Load accepts exactly the sheets that keep to every rule.
-pub fn load_accepts_exactly() -> u8
+pub fn load_accepts_exactly()
     ensures { Exactly }
-{
-    0
-}
+{}

@@ -4,8 +4,9 @@
 pub mod check;
 pub mod deck;
 pub mod fault;
+mod judgement;
 pub mod laws;
 pub mod load;
 pub mod questions;
+mod row;
 pub mod rules;
-pub mod tables;

@@ -1,49 +1,36 @@
 // A new deck, and Load.
-ghost use Rattle.std.specs.Prelude.{◌≡◌, ◌≤◌, length, take, Ok};
+ghost use Rattle.std.specs.Prelude.{◌≡◌, Ok};
 ghost use Rattle.deck.specs.Load.{load_says};
 ghost use Rattle.deck.specs.Sheets.{sheet_of, given, blank_sheet, loaded_to};
 
 use crate::check::check;
 use crate::deck::Deck;
 use crate::fault::Fault;
-use nodes::limits::{LETTERS, NODES};
-use nodes::node::{DECLARATION, EMPTY, INTEGER, Node};
-
-// Copies all of `from` to the front of `to`.
-fn copy<T: Copy>(to: &mut [T], from: &[T])
-    requires { length from.now ≤ length to.old }
-    ensures { take (length from.now) to.new ≡ from.now }
-{
-    for (i, x) in from.iter().enumerate() {
-        to[i] = *x;
-    }
-}
+use arrayvec::ArrayVec;
+use nodes::kind::Kind;
+use nodes::node::Node;
+use nodes::view::View;
 
 impl Deck {
     // A deck with the blank sheet: the letter `a`, declared integer, and no statement.
+    #[tactic(auto, using(crate::proofs::Accepted::blank_loads))]
     pub fn new() -> Deck
         ensures { sheet_of result ≡ blank_sheet }
     {
-        let mut nodes = [Node {
-            kind: EMPTY,
-            a: 0,
-            b: 0,
-            c: 0,
-        }; NODES];
-        nodes[0] = Node {
-            kind: DECLARATION,
-            a: 0,
-            b: 1,
-            c: INTEGER,
+        let mut letters = ArrayVec::new();
+        letters.push(b'a');
+        let declaration = View::Declaration {
+            place: 0,
+            size: 1,
+            kind: Kind::Integer.into(),
         };
-        let mut letters = [0; LETTERS];
-        letters[0] = b'a';
+        let mut nodes = ArrayVec::new();
+        nodes.push(declaration.into());
+        nodes.push(View::Empty.into());
         Deck {
             nodes,
             letters,
-            count: 2,
             declared: 1,
-            size: 1,
         }
     }
 
@@ -52,13 +39,14 @@ impl Deck {
         requires { Ok tt ≡ load_says letters.now nodes.now n v }
         ensures { sheet_of self.new ≡ given letters.now nodes.now n v }
     {
-        copy(&mut self.nodes, &nodes[0..n]);
-        copy(&mut self.letters, letters);
-        self.count = n;
+        self.nodes.clear();
+        self.nodes.try_extend_from_slice(&nodes[..n]).unwrap();
+        self.letters.clear();
+        self.letters.try_extend_from_slice(letters).unwrap();
         self.declared = v;
-        self.size = letters.len();
     }
 
+    // Stays: four parameters, here, in `hold` and in `check`, since that is the form of Load that is asked for.
     // Load: the sheet of the first `n` nodes, `v` of them declarations, or the first fault; then the deck stays as it was.
     pub fn load(&mut self, letters: &[u8], nodes: &[Node], n: usize, v: usize) -> Result<(), Fault>
         ensures says { result ≡ load_says letters.now nodes.now n v }

@@ -1,80 +1,79 @@
 // pack LENGTH N V LETTERS BOXES; unpack BOXES LETTERS CARD; judge CARD
-use crate::decks::{loaded, put_fault};
+use crate::decks::{loaded, refuse};
 use crate::failure::Failure;
-use crate::parse::{ONES, Words, blank_from, bytes, bytes_from, number, put, put_bytes, put_nodes};
+use crate::request::Request;
+use crate::written::{Hex, Listed, ONES, clean, only};
 use deck::deck::Deck;
-use std::alloc::Global;
+use nodes::node::BLANK;
+use std::fmt::Write;
 
 // What buffers are filled with before Pack.
 const BEFORE: u8 = 85;
 
-fn packed(heap: Global, deck: &Deck, length: usize, out: &mut String) -> Result<(), Failure> {
-    let mut all = vec![in heap; BEFORE; length]?;
-    let card = all.as_mut_slice();
-    match card::pack::pack(deck, card) {
+fn kept(yes: bool) -> &'static str {
+    if yes { "kept" } else { "lost" }
+}
+
+// Packs into a buffer of this length, and tells whether what stands behind the card is kept.
+fn packed(request: &mut Request<'_>, deck: &Deck, length: usize) -> Result<(), Failure> {
+    let mut all = vec![in request.heap; BEFORE; length]?;
+    let answer = card::pack::pack(deck, all.as_mut_slice());
+    let card = all.as_slice();
+    match answer {
         Ok(n) => {
-            put(out, format!(in heap; "ok {n} ")?)?;
-            put_bytes(heap, out, &card[0..n.min(card.len())])?;
-            out.push_str(if bytes_from(card, n, BEFORE) {
-                " kept"
-            } else {
-                " lost"
-            })?;
-            Ok(())
+            let bytes = Hex(&card[..n.min(card.len())]);
+            let state = kept(only(card, n, BEFORE));
+            write!(request.out, "ok {n} {bytes} {state}")?;
         }
         Err(refusal) => {
             let number = refusal.number();
-            let state = if bytes_from(card, 0, BEFORE) {
-                "kept"
-            } else {
-                "lost"
-            };
-            put(out, format!(in heap; "no {number} {state}")?)
+            let state = kept(only(card, 0, BEFORE));
+            write!(request.out, "no {number} {state}")?;
         }
     }
+    Ok(())
 }
 
-pub fn pack(heap: Global, words: &mut Words<'_>, out: &mut String) -> Result<(), Failure> {
-    let length = number(words.next()?)?;
-    let mut deck = Deck::new();
-    match loaded(heap, words, &mut deck)? {
-        Ok(()) => packed(heap, &deck, length, out),
-        Err(fault) => put_fault(heap, out, fault),
+pub fn pack(request: &mut Request<'_>) -> Result<(), Failure> {
+    let length = request.number()?;
+    match loaded(request)? {
+        Ok(deck) => packed(request, &deck, length),
+        Err(fault) => refuse(request.out, fault),
     }
 }
 
-pub fn unpack(heap: Global, words: &mut Words<'_>, out: &mut String) -> Result<(), Failure> {
-    let places = number(words.next()?)?;
-    let bytes_given = number(words.next()?)?;
-    let card = bytes(heap, words.next()?)?;
-    let mut all = vec![in heap; ONES; places]?;
-    let mut text = vec![in heap; 255; bytes_given]?;
-    let nodes = all.as_mut_slice();
-    let letters = text.as_mut_slice();
-    match card::unpack::unpack(card.as_slice(), nodes, letters) {
+pub fn unpack(request: &mut Request<'_>) -> Result<(), Failure> {
+    let places = request.number()?;
+    let bytes_given = request.number()?;
+    let card = request.bytes()?;
+    // Stays: buffers with the answered sizes, here, in `texts` and in `plays`, since Read and Unpack fill what their caller lends.
+    let mut all = vec![in request.heap; ONES; places]?;
+    let mut text = vec![in request.heap; 255; bytes_given]?;
+    let answer = card::unpack::unpack(card.as_slice(), all.as_mut_slice(), text.as_mut_slice());
+    let nodes = all.as_slice();
+    let letters = text.as_slice();
+    match answer {
         Ok(sizes) => {
             let n = sizes.n;
             let v = sizes.v;
             let t = sizes.t;
-            put(out, format!(in heap; "ok {n} {v} {t} ")?)?;
-            put_nodes(heap, out, &nodes[0..n.min(nodes.len())])?;
-            out.push(' ')?;
-            put_bytes(heap, out, &letters[0..t.min(letters.len())])?;
-            let clean = blank_from(nodes, n) && bytes_from(letters, t, 0);
-            out.push_str(if clean { " clean" } else { " dirty" })?;
-            Ok(())
+            let listed = Listed(&nodes[..n.min(nodes.len())]);
+            let bytes = Hex(&letters[..t.min(letters.len())]);
+            let state = clean(only(nodes, n, BLANK) && only(letters, t, 0));
+            write!(request.out, "ok {n} {v} {t} {listed} {bytes} {state}")?;
         }
         Err(refusal) => {
             let number = refusal.number();
-            let clean = blank_from(nodes, 0) && bytes_from(letters, 0, 0);
-            let state = if clean { "clean" } else { "dirty" };
-            put(out, format!(in heap; "no {number} {state}")?)
+            let state = clean(only(nodes, 0, BLANK) && only(letters, 0, 0));
+            write!(request.out, "no {number} {state}")?;
         }
     }
+    Ok(())
 }
 
-pub fn judge(heap: Global, words: &mut Words<'_>, out: &mut String) -> Result<(), Failure> {
-    let card = bytes(heap, words.next()?)?;
+pub fn judge(request: &mut Request<'_>) -> Result<(), Failure> {
+    let card = request.bytes()?;
     let number = card::judge::judge(card.as_slice());
-    put(out, format!(in heap; "{number}")?)
+    write!(request.out, "{number}")?;
+    Ok(())
 }

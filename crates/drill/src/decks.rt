@@ -1,36 +1,35 @@
 // load N V LETTERS BOXES
 use crate::failure::Failure;
-use crate::parse::{Words, bytes, nodes, number, put};
+use crate::request::Request;
 use deck::deck::Deck;
 use deck::fault::Fault;
-use std::alloc::Global;
+use std::fmt::Write;
 
-pub fn put_fault(heap: Global, out: &mut String, fault: Fault) -> Result<(), Failure> {
+// Writes a fault, which ends the answer.
+pub fn refuse(out: &mut String, fault: Fault) -> Result<(), Failure> {
     let number = fault.refusal.number();
     let node = fault.node;
-    put(out, format!(in heap; "no {number} {node}")?)
+    write!(out, "no {number} {node}")?;
+    Ok(())
 }
 
 // Loads what the next words say.
-pub fn loaded(
-    heap: Global,
-    words: &mut Words<'_>,
-    deck: &mut Deck,
-) -> Result<Result<(), Fault>, Failure> {
-    let n = number(words.next()?)?;
-    let v = number(words.next()?)?;
-    let letters = bytes(heap, words.next()?)?;
-    let all = nodes(heap, words.next()?)?;
-    Ok(deck.load(letters.as_slice(), all.as_slice(), n, v))
+pub fn loaded(request: &mut Request<'_>) -> Result<Result<Deck, Fault>, Failure> {
+    let n = request.number()?;
+    let v = request.number()?;
+    let letters = request.bytes()?;
+    let all = request.nodes()?;
+    let mut deck = Deck::new();
+    let answer = deck.load(letters.as_slice(), all.as_slice(), n, v);
+    Ok(answer.map(|_| deck))
 }
 
-pub fn load(heap: Global, words: &mut Words<'_>, out: &mut String) -> Result<(), Failure> {
-    let mut deck = Deck::new();
-    match loaded(heap, words, &mut deck)? {
-        Ok(()) => {
-            out.push_str("ok")?;
+pub fn load(request: &mut Request<'_>) -> Result<(), Failure> {
+    match loaded(request)? {
+        Ok(_) => {
+            request.out.push_str("ok")?;
             Ok(())
         }
-        Err(fault) => put_fault(heap, out, fault),
+        Err(fault) => refuse(request.out, fault),
     }
 }

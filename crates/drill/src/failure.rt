@@ -1,8 +1,9 @@
 // Why drill cannot answer.
 use std::alloc::{AllocError, AllocFailed};
-use std::io;
+use std::num::{ParseIntError, TryFromIntError};
+use std::{fmt, io};
 
-#[derive(Clone, Copy)]
+#[derive(Clone, Copy, PartialEq, Eq, Debug)]
 pub enum Failure {
     // A line is no request.
     Request,
@@ -10,13 +11,25 @@ pub enum Failure {
     Stream,
 }
 
-impl Failure {
-    pub fn meaning(self) -> &'static str {
-        match self {
+impl fmt::Display for Failure {
+    fn fmt<W: fmt::Write>(&self, f: &mut fmt::Formatter<W>) -> fmt::Result {
+        f.write_str(match self {
             Failure::Request => "a line is no request",
             Failure::Memory => "out of memory",
             Failure::Stream => "input or output failed",
-        }
+        })
+    }
+}
+
+impl From<ParseIntError> for Failure {
+    fn from(_error: ParseIntError) -> Failure {
+        Failure::Request
+    }
+}
+
+impl From<TryFromIntError> for Failure {
+    fn from(_error: TryFromIntError) -> Failure {
+        Failure::Request
     }
 }
 

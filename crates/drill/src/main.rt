@@ -4,26 +4,27 @@
 mod cards;
 mod decks;
 mod failure;
-mod parse;
 mod plays;
+mod request;
 mod texts;
+mod written;
 
 use crate::failure::Failure;
-use crate::parse::Words;
+use crate::request::Request;
 use std::alloc::Global;
 use std::io::{Read, Write};
 use std::process::ExitCode;
 
-// The answer to a request.
-fn answer(heap: Global, line: &str, out: &mut String) -> Result<(), Failure> {
-    let mut words = Words::new(line);
-    match words.next()? {
-        "read" => texts::read(heap, &mut words, out),
-        "load" => decks::load(heap, &mut words, out),
-        "pack" => cards::pack(heap, &mut words, out),
-        "unpack" => cards::unpack(heap, &mut words, out),
-        "judge" => cards::judge(heap, &mut words, out),
-        "run" => plays::run(heap, &mut words, out),
+// Answers a request.
+// Stays: a match on the word, which is the table.
+fn answer(request: &mut Request<'_>) -> Result<(), Failure> {
+    match request.word()? {
+        "read" => texts::read(request),
+        "load" => decks::load(request),
+        "pack" => cards::pack(request),
+        "unpack" => cards::unpack(request),
+        "judge" => cards::judge(request),
+        "run" => plays::run(request),
         _ => Err(Failure::Request),
     }
 }
@@ -32,7 +33,7 @@ fn answers(heap: Global, requests: &str) -> Result<String, Failure> {
     let mut out = String::new(heap);
     for line in requests.lines() {
         if !line.is_empty() && !line.starts_with('#') {
-            answer(heap, line, &mut out)?;
+            answer(&mut Request::new(heap, line, &mut out))?;
             out.push('\n')?;
         }
     }
@@ -53,8 +54,7 @@ fn main(rt: HostRuntime) -> ExitCode {
     match serve(&rt) {
         Ok(()) => ExitCode::SUCCESS,
         Err(failure) => {
-            let why = failure.meaning();
-            let _ = eprintln!(rt; "drill: {why}");
+            let _ = eprintln!(rt; "drill: {failure}");
             ExitCode::FAILURE
         }
     }

@@ -1,168 +1,148 @@
 // run rows|packed SIZE CARD CALL..
-use crate::decks::put_fault;
+use crate::decks::refuse;
 use crate::failure::Failure;
-use crate::parse::{Words, bytes, number, put, put_bytes};
+use crate::request::Request;
+use crate::written::Hex;
 use deck::deck::Deck;
+use nodes::limits::{LETTERS, NODES};
 use nodes::node::BLANK;
 use packed::Packed;
 use player::perform::perform;
 use rows::Rows;
-use semantics::call::{Answer, Call, LookRefusal, Outcome};
+use semantics::call::{Answer, Call, LookRefusal, Outcome, Progress};
 use semantics::status::{Cause, Status};
 use shelf::{LONGEST, Shelf};
-use std::alloc::Global;
+use std::fmt;
+use std::fmt::Write;
 
 // The line of all looks before the first.
-const DOT: u8 = 46;
+const DOT: u8 = b'.';
 
-fn put_status(heap: Global, out: &mut String, status: Status) -> Result<(), Failure> {
-    match status {
-        Status::Ready => put(out, format!(in heap; "ready")?),
-        Status::Ended => put(out, format!(in heap; "ended")?),
-        Status::Stopped { cause, node } => {
-            let number = cause.number();
-            put(out, format!(in heap; "stopped:{number}:{node}")?)?;
-            if let Cause::NoRoom(why) = cause {
-                let carried = why.number();
-                put(out, format!(in heap; ":{carried}")?)?;
+// How a player stands, as a word.
+#[derive(Clone, Copy)]
+struct Stand(Status);
+
+impl fmt::Display for Stand {
+    fn fmt<W: fmt::Write>(&self, f: &mut fmt::Formatter<W>) -> fmt::Result {
+        match self.0 {
+            Status::Ready => f.write_str("ready"),
+            Status::Ended => f.write_str("ended"),
+            Status::Stopped { cause, node } => {
+                let number = cause.number();
+                write!(f, "stopped:{number}:{node}")?;
+                if let Cause::NoRoom(why) = cause {
+                    let carried = why.number();
+                    write!(f, ":{carried}")?;
+                }
+                Ok(())
             }
-            Ok(())
         }
     }
 }
 
-fn put_look(
-    heap: Global,
-    out: &mut String,
+// What a look answers, as a word.
+#[derive(Clone, Copy)]
+struct Look {
     seen: Result<Outcome, LookRefusal>,
-    line: &[u8; 80],
-) -> Result<(), Failure> {
-    match seen {
-        Ok(Outcome::Number(value)) => put(out, format!(in heap; "look:number:{value}")?),
-        Ok(Outcome::Text(length)) => {
-            out.push_str("look:text:")?;
-            put_bytes(heap, out, &line[0..length.min(LONGEST)])
-        }
-        Err(refusal) => {
-            let number = refusal.number();
-            put(out, format!(in heap; "look:no:{number}")?)
+    line: [u8; LONGEST],
+}
+
+impl fmt::Display for Look {
+    fn fmt<W: fmt::Write>(&self, f: &mut fmt::Formatter<W>) -> fmt::Result {
+        match self.seen {
+            Ok(Outcome::Number(value)) => write!(f, "look:number:{value}"),
+            Ok(Outcome::Text(length)) => {
+                let text = Hex(&self.line[..length.min(LONGEST)]);
+                write!(f, "look:text:{text}")
+            }
+            Err(refusal) => {
+                let number = refusal.number();
+                write!(f, "look:no:{number}")
+            }
         }
     }
 }
 
 // A call as its word says it. One line serves all looks: a text fills it whole, and nothing else changes it.
 fn call(word: &str) -> Result<Call, Failure> {
-    match word.split_once(':') {
-        None => Ok(Call::Rewind),
-        Some((what, argument)) => {
-            let n = number(argument)?;
-            if what == "play" {
-                Ok(Call::Play(n.min(65535) as u16))
-            } else {
-                Ok(Call::Look {
-                    of: n,
-                    line: [DOT; 80],
-                })
-            }
-        }
+    let Some((what, argument)) = word.split_once(':') else {
+        return Ok(Call::Rewind);
+    };
+    let n = argument.parse::<usize>()?;
+    if what == "play" {
+        Ok(Call::Play(n.min(65535) as u16))
+    } else {
+        Ok(Call::Look {
+            of: n,
+            line: [DOT; LONGEST],
+        })
     }
 }
 
-fn calls(heap: Global, words: &mut Words<'_>) -> Result<Vec<Call>, Failure> {
-    let mut all = Vec::new(heap);
-    for _ in 0..words.len() {
-        if !words.more() {
-            return Ok(all);
-        }
-        all.push(call(words.next()?)?)?;
-    }
-    Ok(all)
-}
-
-// The answers, a word each, and then the line.
-fn put_answers(heap: Global, out: &mut String, answers: &[Answer]) -> Result<(), Failure> {
-    let mut shared = [DOT; 80];
+// Writes the answers, a word each, and then the line.
+fn write_answers(out: &mut String, answers: &[Answer]) -> Result<(), Failure> {
+    let mut shared = [DOT; LONGEST];
     for answer in answers {
         match *answer {
-            Answer::Played(progress) => {
-                let beats = progress.beats;
-                put(out, format!(in heap; "play:{beats}:")?)?;
-                put_status(heap, out, progress.status)?;
+            Answer::Played(Progress { beats, status }) => {
+                let now = Stand(status);
+                write!(out, "play:{beats}:{now} ")?;
             }
             Answer::Rewound(status) => {
-                out.push_str("rewind:")?;
-                put_status(heap, out, status)?;
+                let now = Stand(status);
+                write!(out, "rewind:{now} ")?;
             }
             Answer::Looked { seen, line } => {
-                put_look(heap, out, seen, &line)?;
+                let look = Look { seen, line };
+                write!(out, "{look} ")?;
                 if let Ok(Outcome::Text(_)) = seen {
                     shared = line;
                 }
             }
         }
-        out.push(' ')?;
     }
-    put_line(heap, out, shared)
+    let line = Hex(&shared);
+    write!(out, "line:{line}")?;
+    Ok(())
 }
 
-fn put_line(heap: Global, out: &mut String, line: [u8; 80]) -> Result<(), Failure> {
-    out.push_str("line:")?;
-    put_bytes(heap, out, &line)
-}
-
-fn played<S: Shelf + Drop>(
-    heap: Global,
-    deck: Deck,
-    shelf: S,
-    words: &mut Words<'_>,
-    out: &mut String,
-) -> Result<(), Failure> {
-    let script = calls(heap, words)?;
-    let mut answers = vec![in heap; Answer::Rewound(Status::Ready); script.len()]?;
+fn played<S: Shelf + Drop>(request: &mut Request<'_>, deck: Deck, shelf: S) -> Result<(), Failure> {
+    let script = request.rest(call)?;
+    let mut answers = vec![in request.heap; Answer::Rewound(Status::Ready); script.len()]?;
     let _ = perform(deck, shelf, script.as_slice(), answers.as_mut_slice());
-    put_answers(heap, out, answers.as_slice())
+    write_answers(request.out, answers.as_slice())
 }
 
 // Plays a loaded deck on the shelf that was asked for.
-fn on_shelf(
-    heap: Global,
-    deck: Deck,
-    kind: &str,
-    size: usize,
-    words: &mut Words<'_>,
-    out: &mut String,
-) -> Result<(), Failure> {
-    let memory = vec![in heap; 0; size]?;
-    if kind == "rows" {
-        played(heap, deck, Rows::new(memory), words, out)
+fn on_shelf(request: &mut Request<'_>, deck: Deck, make: &str, size: usize) -> Result<(), Failure> {
+    let memory = vec![in request.heap; 0; size]?;
+    if make == "rows" {
+        played(request, deck, Rows::new(memory))
     } else {
-        played(heap, deck, Packed::new(memory), words, out)
+        played(request, deck, Packed::new(memory))
     }
 }
 
-pub fn run(heap: Global, words: &mut Words<'_>, out: &mut String) -> Result<(), Failure> {
-    let kind = words.next()?;
-    let size = number(words.next()?)?;
-    let card = bytes(heap, words.next()?)?;
-    let mut all = vec![in heap; BLANK; 512]?;
-    let mut letters = vec![in heap; 0; 4096]?;
+pub fn run(request: &mut Request<'_>) -> Result<(), Failure> {
+    let make = request.word()?;
+    let size = request.number()?;
+    let card = request.bytes()?;
+    let mut all = vec![in request.heap; BLANK; NODES]?;
+    let mut letters = vec![in request.heap; 0; LETTERS]?;
     match card::unpack::unpack(card.as_slice(), all.as_mut_slice(), letters.as_mut_slice()) {
         Ok(sizes) => {
             let text = letters.as_slice();
+            let used = &text[..sizes.t.min(text.len())];
             let mut deck = Deck::new();
-            match deck.load(
-                &text[0..sizes.t.min(text.len())],
-                all.as_slice(),
-                sizes.n,
-                sizes.v,
-            ) {
-                Ok(()) => on_shelf(heap, deck, kind, size, words, out),
-                Err(fault) => put_fault(heap, out, fault),
+            match deck.load(used, all.as_slice(), sizes.n, sizes.v) {
+                Ok(()) => on_shelf(request, deck, make, size),
+                Err(fault) => refuse(request.out, fault),
             }
         }
         Err(refusal) => {
             let number = refusal.number();
-            put(out, format!(in heap; "no {number}")?)
+            write!(request.out, "no {number}")?;
+            Ok(())
         }
     }
 }

@@ -4,36 +4,26 @@
 ghost use Rattle.grammar.specs.Laws.{Sound, Complete, Unambiguous, Faults, Exact};
 
 // What reading accepts, the rules of the grammar derive.
-pub fn reading_is_sound() -> u8
+pub fn reading_is_sound()
     ensures { Sound }
-{
-    0
-}
+{}
 
 // What the rules derive, reading accepts, with that tree.
-pub fn reading_is_complete() -> u8
+pub fn reading_is_complete()
     ensures { Complete }
-{
-    0
-}
+{}
 
 // No sheet has two trees.
-pub fn grammar_is_unambiguous() -> u8
+pub fn grammar_is_unambiguous()
     ensures { Unambiguous }
-{
-    0
-}
+{}
 
 // A refusal says of the words what it stands for.
-pub fn faults_mean_what_they_say() -> u8
+pub fn faults_mean_what_they_say()
     ensures { Faults }
-{
-    0
-}
+{}
 
 // And where that holds, no other refusal is told.
-pub fn faults_are_exact() -> u8
+pub fn faults_are_exact()
     ensures { Exact }
-{
-    0
-}
+{}

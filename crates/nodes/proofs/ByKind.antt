@@ -1,10 +1,10 @@
 -- What holds of a node's view, kind by kind.
-use Rattle.std.proofs.Common.{◌≡◌, ℕ, ◌+◌, ◌*◌, Bool, true, false, cond, eqb, refl, ap}
+use Rattle.std.proofs.Common.{◌≡◌, ℕ, ◌+◌, ◌*◌, Bool, true, false, cond, eqb, refl, ap, arith}
 use Rattle.std.proofs.lemmas.Bool.{eqb-true}
 use Rattle.nodes.specs.declared.node.Node.{Node}
 use Rattle.nodes.specs.declared.view.View.{View}
 use Rattle.nodes.specs.declared.view.View.TheVariants as V
-use Rattle.nodes.specs.Nodes.{view_as, view_of}
+use Rattle.nodes.specs.Nodes.{view_as, view_of, node_of}
 
 -- the view of a node of a known kind
 pub kind_is : (x : Node) (k : ℕ) → x.kind ≡ k → view_of x ≡ view_as k x.a x.b x.c
@@ -30,3 +30,18 @@ by_kind P k a b c f1 f2 f3 f4 f5 f6 f7 f8 f9 f10 empty unknown =
     (pick P (eqb k 9) _ _ (λ e. f9 (eqb-true k 9 e))
     (pick P (eqb k 10) _ _ (λ e. f10 (eqb-true k 10 e))
     (pick P (eqb k 11) _ _ (λ e. empty) unknown))))))))))
+
+-- the node that a view says is seen as that view
+pub view_of-node_of : (v : View) → view_of (node_of v) ≡ v
+view_of-node_of (V.Declaration p s k) = refl
+view_of-node_of (V.Variable p s n) = refl
+view_of-node_of (V.Number v) = ap V.Number (omega arith)
+view_of-node_of (V.Text p s) = refl
+view_of-node_of (V.Plus a b) = refl
+view_of-node_of (V.Conc a b) = refl
+view_of-node_of (V.Assign a b) = refl
+view_of-node_of (V.If a b c) = refl
+view_of-node_of (V.While a b) = refl
+view_of-node_of (V.Series a b) = refl
+view_of-node_of V.Empty = refl
+view_of-node_of V.Unknown = refl

@@ -1,5 +1,5 @@
 -- A sheet, and what each of its nodes is by its kind.
-use Rattle.std.specs.Prelude.{ℕ, ◌+◌, ◌*◌, Bool, true, cond, ◌&&◌, List, [], ◌∷◌, map, length, take, Some, None, Option, ◌==◌, nat_le, nat_lt, slice_index_or}
+use Rattle.std.specs.Prelude.{ℕ, ◌+◌, ◌*◌, ◌/◌, ◌%◌, Bool, true, cond, ◌&&◌, List, [], ◌∷◌, map, length, take, Some, None, Option, ◌==◌, nat_le, nat_lt, slice_index_or}
 use Rattle.nodes.specs.declared.node.Node.{Node}
 use Rattle.nodes.specs.declared.view.View.{View}
 use Rattle.nodes.specs.declared.view.View.TheVariants as V
@@ -41,6 +41,21 @@ view_as k a b c =
 
 abbrev pub view_of : Node → View
 view_of x = view_as x.kind x.a x.b x.c
+
+-- the node that says this; `view_of` of it is the view again, where the fields fit
+abbrev pub node_of : View → Node
+node_of (V.Declaration p s k) = node 1 p s k
+node_of (V.Variable p s n) = node 2 p s n
+node_of (V.Number v) = node 3 (v % 65536) (v / 65536) 0
+node_of (V.Text p s) = node 4 p s 0
+node_of (V.Plus a b) = node 5 a b 0
+node_of (V.Conc a b) = node 6 a b 0
+node_of (V.Assign a b) = node 7 a b 0
+node_of (V.If a b c) = node 8 a b c
+node_of (V.While a b) = node 9 a b 0
+node_of (V.Series a b) = node 10 a b 0
+node_of V.Empty = node 11 0 0 0
+node_of V.Unknown = blank
 
 abbrev pub view_at : List Node → ℕ → View
 view_at ns i = view_of (node_at ns i)

@@ -1,5 +1,6 @@
 // What a declared name stands for: its type, 1 integer or 2 string, and its variable.
-#[derive(Clone, Copy)]
+// Stays: the type as a number, since a declaration may bring any.
+#[derive(Clone, Copy, PartialEq, Eq, Default, Debug)]
 pub struct Binding {
     pub kind: u16,
     pub number: u16,

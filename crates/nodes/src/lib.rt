@@ -2,6 +2,7 @@
 #![tactic(auto)]
 
 pub mod binding;
+pub mod kind;
 pub mod limits;
 pub mod node;
 pub mod view;

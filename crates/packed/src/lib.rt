@@ -2,5 +2,6 @@
 #![tactic(auto)]
 
 pub mod packed;
+mod slot;
 
 pub use crate::packed::Packed;

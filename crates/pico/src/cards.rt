@@ -1,15 +1,16 @@
 // check, pack and show.
 use crate::failure::Failure;
-use crate::fault::fail_card;
+use crate::fault::refuse_card;
 use crate::loaded::from_file;
-use crate::tree::{Sheet, drawn};
+use crate::tree::Sheet;
 use card::pack::pack;
+use nodes::limits::{LETTERS, NODES};
 use std::fs;
-use std::io::Write;
 
 // The most bytes that a card can have.
-const LONGEST_CARD: usize = 7686;
+const LONGEST_CARD: usize = 6 + 7 * NODES + LETTERS;
 
+// Stays: the system and a file, here and in the other commands, since most take one of the two alone further on.
 pub fn check(rt: &HostRuntime, file: &str, card: bool) -> Result<(), Failure> {
     let deck = from_file(rt, file, card)?;
     let nodes = deck.count();
@@ -30,15 +31,12 @@ fn write_whole(rt: &HostRuntime, file: &str, bytes: &[u8]) -> Result<(), Failure
 pub fn pack_file(rt: &HostRuntime, sheet: &str, to: &str) -> Result<(), Failure> {
     let deck = from_file(rt, sheet, false)?;
     let mut bytes = [0; LONGEST_CARD];
-    match pack(&deck, &mut bytes) {
-        Ok(length) => {
-            let size = length.min(LONGEST_CARD);
-            write_whole(rt, to, &bytes[0..size])?;
-            println!(rt; "{to}: {size} bytes")?;
-            Ok(())
-        }
-        Err(refusal) => Err(fail_card(rt, to, refusal)),
-    }
+    let length = pack(&deck, &mut bytes).map_err(|refusal| refuse_card(rt, to, refusal))?;
+    let card = &bytes[..length.min(LONGEST_CARD)];
+    write_whole(rt, to, card)?;
+    let size = card.len();
+    println!(rt; "{to}: {size} bytes")?;
+    Ok(())
 }
 
 pub fn show(rt: &HostRuntime, file: &str) -> Result<(), Failure> {
@@ -48,8 +46,5 @@ pub fn show(rt: &HostRuntime, file: &str) -> Result<(), Failure> {
         nodes: deck.nodes(),
         variables: deck.variables(),
     };
-    let picture = drawn(rt.alloc(), sheet)?;
-    let mut out = rt.stdout();
-    out.write_all(picture.as_bytes())?;
-    Ok(())
+    sheet.show(rt)
 }

@@ -3,6 +3,7 @@ use anyhow::anyhow;
 use std::alloc::{AllocError, AllocFailed};
 use std::io;
 
+// Stays: no Option, since `Shown` says what None would not.
 #[derive(Drop)]
 pub enum Failure {
     // It was shown already, with its place.
@@ -16,6 +17,12 @@ impl Failure {
         if let Failure::Told(error) = self {
             let _ = eprintln!(rt; "{error}");
         }
+    }
+}
+
+impl From<anyhow::Error> for Failure {
+    fn from(error: anyhow::Error) -> Failure {
+        Failure::Told(error)
     }
 }
 

@@ -6,14 +6,10 @@ use std::{fs, io};
 pub fn bytes(rt: &HostRuntime, file: &str) -> Result<Vec<u8>, Failure> {
     if file == "-" {
         let mut all = Vec::new(rt.alloc());
-        let mut input = rt.stdin();
-        input.read_to_end(&mut all)?;
+        rt.stdin().read_to_end(&mut all)?;
         return Ok(all);
     }
-    match fs::read(rt, file) {
-        Ok(all) => Ok(all),
-        Err(error) => Err(unreadable(rt, file, error)),
-    }
+    fs::read(rt, file).map_err(|error| unreadable(rt, file, error))
 }
 
 // Tells that a file cannot be read.

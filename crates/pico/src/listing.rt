@@ -1,92 +1,76 @@
 // The words of a sheet, listed.
 use crate::failure::Failure;
-use crate::fault::{fail, shown};
+use crate::fault::refuse_text;
 use crate::input;
-use crate::place::{FIRST, onward};
+use crate::place::{FIRST, Shown, Spot};
+use crate::tokens::Tokens;
 use std::io::{BufWriter, Write};
-use words::next_word;
 use words::word::{Fixed, Token, Word};
 
 fn kind(word: Word<'_>) -> &'static str {
     match word {
         Word::Name(_) => "name",
-        Word::Number(_, _) => "number",
+        Word::Number(..) => "number",
         Word::Text(_) => "text",
-        Word::Fixed(w) => {
-            if w as u8 <= Fixed::Od as u8 {
-                "keyword"
-            } else {
-                "mark"
-            }
-        }
+        Word::Fixed(
+            Fixed::Open
+            | Fixed::Close
+            | Fixed::Plus
+            | Fixed::Minus
+            | Fixed::Semicolon
+            | Fixed::Comma
+            | Fixed::Join
+            | Fixed::Colon
+            | Fixed::Becomes,
+        ) => "mark",
+        Word::Fixed(_) => "keyword",
         Word::End => "end",
     }
 }
 
-fn is_end(token: Token<'_>) -> bool {
-    match token.word {
-        Word::End => true,
-        _ => false,
-    }
-}
-
-// Counts the words, and answers how many there are.
-fn counted(rt: &HostRuntime, file: &str, text: &[u8]) -> Result<u64, Failure> {
-    let mut at = 0;
-    for n in 0..u64::MAX {
-        match next_word(text, at) {
-            Ok(token) => {
-                if is_end(token) {
-                    return Ok(n);
-                }
-                at = token.next;
-            }
-            Err(fault) => return Err(fail(rt, file, text, fault)),
-        }
-    }
-    Ok(u64::MAX)
-}
-
+// Counts the words.
 pub fn count(rt: &HostRuntime, file: &str) -> Result<(), Failure> {
     let text = input::bytes(rt, file)?;
-    let n = counted(rt, file, text.as_slice())?;
+    let mut n: u64 = 0;
+    for token in Tokens::new(text.as_slice()) {
+        token.map_err(|fault| refuse_text(rt, file, text.as_slice(), fault))?;
+        n = n.saturating_add(1);
+    }
     println!(rt; "{n}")?;
     Ok(())
 }
 
-// Lists the words to a buffer, until the text ends or a fault comes.
+// The bytes from the place of a word to the place after it.
+fn spelling<'a>(text: &'a [u8], token: Token<'_>) -> &'a [u8] {
+    text.get(token.place..token.next).unwrap_or(&[])
+}
+
+// Lists the words to a buffer, until the text ends or a fault comes, and answers how many there are.
 fn listed(rt: &HostRuntime, file: &str, text: &[u8], out: &mut impl Write) -> Result<u64, Failure> {
     let mut spot = FIRST;
-    let mut at = 0;
-    for n in 0..u64::MAX {
-        match next_word(text, at) {
+    let mut n: u64 = 0;
+    for token in Tokens::new(text) {
+        match token {
             Ok(token) => {
-                if is_end(token) {
-                    return Ok(n);
-                }
-                spot = onward(text, spot, token.place);
-                let line = spot.line;
-                let column = spot.column;
-                let place = token.place;
-                let what = kind(token.word);
-                let spelling = shown(rt.alloc(), spelling(text, token))?;
-                writeln!(out, "{line}\t{column}\t{place}\t{what}\t{spelling}")?;
-                at = token.next;
+                spot = spot.onward(text, token.place);
+                let Spot {
+                    place,
+                    line,
+                    column,
+                    ..
+                } = spot;
+                let kind = kind(token.word);
+                let spelling = Shown(spelling(text, token));
+                writeln!(out, "{line}\t{column}\t{place}\t{kind}\t{spelling}")?;
+                n = n.saturating_add(1);
             }
             Err(fault) => {
                 out.flush()?;
-                return Err(fail(rt, file, text, fault));
+                return Err(refuse_text(rt, file, text, fault));
             }
         }
     }
-    Ok(u64::MAX)
-}
-
-// The bytes from the place of a word to the place after it.
-fn spelling<'a>(text: &'a [u8], token: Token<'_>) -> &'a [u8] {
-    let to = token.next.min(text.len());
-    let from = token.place.min(to);
-    &text[from..to]
+    Ok(n)
 }
 
 pub fn list(rt: &HostRuntime, file: &str) -> Result<(), Failure> {

@@ -1,6 +1,7 @@
 // A deck from a text or from a card.
 use crate::failure::Failure;
-use crate::{fault, input};
+use crate::fault::{refuse_card, refuse_node, refuse_text};
+use crate::input;
 use card::unpack::unpack;
 use deck::deck::Deck;
 use nodes::limits::{LETTERS, NODES};
@@ -13,6 +14,7 @@ pub fn is_card(file: &str, said: bool) -> bool {
 }
 
 // Loads nodes into a deck, or shows why not.
+// Stays: parameters, as Load has them.
 fn load(
     rt: &HostRuntime,
     file: &str,
@@ -22,41 +24,33 @@ fn load(
     v: usize,
 ) -> Result<Deck, Failure> {
     let mut deck = Deck::new();
-    match deck.load(letters, nodes, n, v) {
-        Ok(()) => Ok(deck),
-        Err(found) => Err(fault::fail_at_node(rt, file, letters, nodes, found)),
-    }
+    deck.load(letters, nodes, n, v)
+        .map_err(|fault| refuse_node(rt, file, letters, nodes, fault))?;
+    Ok(deck)
 }
 
 pub fn from_text(rt: &HostRuntime, file: &str, text: &[u8]) -> Result<Deck, Failure> {
     let mut all = [BLANK; NODES];
-    match read(text, &mut all) {
-        Ok(sizes) => load(
-            rt,
-            file,
-            text,
-            &all,
-            sizes.nodes as usize,
-            sizes.variables as usize,
-        ),
-        Err(found) => Err(fault::fail(rt, file, text, found)),
-    }
+    let sizes = read(text, &mut all).map_err(|fault| refuse_text(rt, file, text, fault))?;
+    load(
+        rt,
+        file,
+        text,
+        &all,
+        sizes.nodes as usize,
+        sizes.variables as usize,
+    )
 }
 
 pub fn from_card(rt: &HostRuntime, file: &str, bytes: &[u8]) -> Result<Deck, Failure> {
+    // Stays: arrays with the sizes beside them, here, in `from_text`, `tree`, `cards` and `play`, since Unpack, Read, Pack and Look fill what their caller lends.
     let mut all = [BLANK; NODES];
     let mut letters = [0; LETTERS];
-    match unpack(bytes, &mut all, &mut letters) {
-        Ok(sizes) => load(
-            rt,
-            file,
-            &letters[0..sizes.t.min(LETTERS)],
-            &all,
-            sizes.n,
-            sizes.v,
-        ),
-        Err(refusal) => Err(fault::fail_card(rt, file, refusal)),
-    }
+    let sizes = unpack(bytes, &mut all, &mut letters).map_err(|refusal| refuse_card(
+        rt, file, refusal,
+    ))?;
+    let text = &letters[..sizes.t.min(LETTERS)];
+    load(rt, file, text, &all, sizes.n, sizes.v)
 }
 
 pub fn from_file(rt: &HostRuntime, file: &str, card: bool) -> Result<Deck, Failure> {

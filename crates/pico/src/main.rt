@@ -8,11 +8,11 @@ mod help;
 mod input;
 mod listing;
 mod loaded;
-mod meaning;
 mod options;
 mod place;
 mod play;
 mod script;
+mod tokens;
 mod tree;
 
 use crate::failure::Failure;
@@ -26,13 +26,9 @@ fn told(message: &'static str) -> Result<(), Failure> {
 
 fn words(rt: &HostRuntime, args: &[String]) -> Result<(), Failure> {
     match args {
-        [flag, file] => {
-            if flag.as_str() != "--count" {
-                return told("pico: words takes a file, and --count before it");
-            }
-            listing::count(rt, file.as_str())
-        }
+        [flag, file] if flag.as_str() == "--count" => listing::count(rt, file.as_str()),
         [file] => listing::list(rt, file.as_str()),
+        [_, _] => told("pico: words takes a file, and --count before it"),
         _ => told("pico: words takes a file"),
     }
 }
@@ -77,26 +73,18 @@ fn play_sheet(rt: &HostRuntime, args: &[String]) -> Result<(), Failure> {
 
 // What is said of a command, or else of all of them.
 fn say(rt: &HostRuntime, args: &[String]) -> Result<(), Failure> {
-    match args {
-        [] => Ok(rt.print(help::USAGE)?),
-        [command, ..] => match help::about(command.as_str()) {
-            Some(text) => Ok(rt.print(text)?),
-            None => Ok(rt.print(help::USAGE)?),
-        },
-    }
+    let about = args
+        .first()
+        .and_then(|command| help::about(command.as_str()));
+    rt.print(about.unwrap_or(help::USAGE))?;
+    Ok(())
 }
 
 fn is_help(word: &String) -> bool {
-    word.as_str() == "--help" || word.as_str() == "-h"
+    matches!(word.as_str(), "--help" | "-h")
 }
 
-fn asks_for_help(args: &[String]) -> bool {
-    match args {
-        [word] => is_help(word),
-        _ => false,
-    }
-}
-
+// Stays: a match on the word, which is the table: a list of words and functions would say the same and be searched by hand.
 fn run_command(rt: &HostRuntime, command: &str, rest: &[String]) -> Result<(), Failure> {
     match command {
         "words" => words(rt, rest),
@@ -113,12 +101,8 @@ fn run_command(rt: &HostRuntime, command: &str, rest: &[String]) -> Result<(), F
 fn run(rt: &HostRuntime, args: &[String]) -> Result<(), Failure> {
     match args {
         [] => say(rt, args),
-        [command, rest @ ..] => {
-            if asks_for_help(rest) {
-                return say(rt, args);
-            }
-            run_command(rt, command.as_str(), rest)
-        }
+        [_, word] if is_help(word) => say(rt, args),
+        [command, rest @ ..] => run_command(rt, command.as_str(), rest),
     }
 }
 
@@ -144,28 +128,15 @@ fn batch(rt: &HostRuntime, file: &str) -> Result<(), Failure> {
     Ok(())
 }
 
-fn arguments(rt: &HostRuntime) -> Result<Vec<String>, Failure> {
-    let mut words = Vec::new(rt.alloc());
-    for word in env::args(rt)?.skip(1) {
-        words.push(word)?;
-    }
-    Ok(words)
-}
-
 fn command(rt: &HostRuntime, args: &[String]) -> Result<(), Failure> {
     match args {
-        [name, file] => {
-            if name.as_str() == "batch" && !is_help(file) {
-                return batch(rt, file.as_str());
-            }
-            run(rt, args)
-        }
+        [name, file] if name.as_str() == "batch" && !is_help(file) => batch(rt, file.as_str()),
         _ => run(rt, args),
     }
 }
 
 fn start(rt: &HostRuntime) -> Result<(), Failure> {
-    let args = arguments(rt)?;
+    let args: Vec<String> = env::args(rt)?.skip(1).collect(rt.alloc())?;
     command(rt, args.as_slice())
 }
 

@@ -1,7 +1,31 @@
 // The options of play.
+ghost use Rattle.std.specs.Prelude.{◌≤◌, ◌<◌, length, IfOk};
+
 use crate::failure::Failure;
-use crate::play::{Options, PLAIN};
-use anyhow::anyhow;
+use anyhow::Context;
+
+// How a sheet is to be played.
+#[derive(Clone, Copy)]
+pub struct Options {
+    // The most beats.
+    pub beats: u64,
+    // The portions that they are granted in, where it is said; each is then shown.
+    pub grant: Option<u16>,
+    // Whether each beat is shown with what it changed.
+    pub trace: bool,
+    // So much room on a packed shelf, where it is said.
+    pub room: Option<usize>,
+    // The file is a card, whatever its name.
+    pub card: bool,
+}
+
+const PLAIN: Options = Options {
+    beats: 1000000,
+    grant: None,
+    trace: false,
+    room: None,
+    card: false,
+};
 
 // What was asked of play: options, a script of calls or none, and the file.
 #[derive(Drop)]
@@ -11,68 +35,70 @@ pub struct Asked<'a> {
     pub file: Option<&'a str>,
 }
 
-fn number(word: Option<&String>) -> Result<u64, Failure> {
-    match word {
-        Some(text) => match text.as_str().parse::<u64>() {
-            Ok(n) => Ok(n),
-            Err(_) => Err(Failure::Told(anyhow!("pico: an option wants a number behind it"))),
-        },
-        None => Err(Failure::Told(anyhow!("pico: an option wants a number behind it"))),
-    }
+// The number that comes next, and the words behind it.
+fn number(words: &[String]) -> Result<(u64, &[String]), Failure>
+    ensures { IfOk result (λ r. length r.1.now ≤ length words.now) }
+{
+    let wanted = "pico: an option wants a number behind it";
+    let (word, rest) = words.split_first().context(wanted)?;
+    let n = word.as_str().parse::<u64>().context(wanted)?;
+    Ok((n, rest))
 }
 
-// One word of the command; answers how many words it took.
-fn take<'a>(
-    asked: &mut Asked<'a>,
-    word: &'a String,
-    next: Option<&'a String>,
-) -> Result<usize, Failure> {
-    match word.as_str() {
-        "--beats" => {
-            asked.options.beats = number(next)?;
-            Ok(2)
-        }
-        "--grant" => {
-            asked.options.grant = number(next)?.clamp(1, 65535) as u16;
-            asked.options.shows_portions = true;
-            Ok(2)
-        }
-        "--room" => {
-            asked.options.room = Some(number(next)?.min(1048576) as usize);
-            Ok(2)
-        }
-        "--calls" => {
-            if let Some(text) = next {
-                asked.calls = Some(text.as_str());
+impl<'a> Asked<'a> {
+    // Takes one word of the command, and what belongs to it of the words behind it; answers the others.
+    fn take(&mut self, word: &'a String, rest: &'a [String]) -> Result<&'a [String], Failure>
+        ensures { IfOk result (λ r. length r.now ≤ length rest.now) }
+    {
+        let options = &mut self.options;
+        match word.as_str() {
+            "--beats" => {
+                let (n, rest) = number(rest)?;
+                options.beats = n;
+                Ok(rest)
             }
-            Ok(2)
-        }
-        "--trace" => {
-            asked.options.trace = true;
-            Ok(1)
-        }
-        "--card" => {
-            asked.options.card = true;
-            Ok(1)
-        }
-        file => {
-            asked.file = Some(file);
-            Ok(1)
+            "--grant" => {
+                let (n, rest) = number(rest)?;
+                options.grant = Some(n.clamp(1, 65535) as u16);
+                Ok(rest)
+            }
+            "--room" => {
+                let (n, rest) = number(rest)?;
+                options.room = Some(n.min(1048576) as usize);
+                Ok(rest)
+            }
+            "--calls" => match rest {
+                [text, rest @ ..] => {
+                    self.calls = Some(text.as_str());
+                    Ok(rest)
+                }
+                [] => Ok(rest),
+            },
+            "--trace" => {
+                options.trace = true;
+                Ok(rest)
+            }
+            "--card" => {
+                options.card = true;
+                Ok(rest)
+            }
+            file => {
+                self.file = Some(file);
+                Ok(rest)
+            }
         }
     }
 }
 
 pub fn parse<'a>(args: &'a [String]) -> Result<Asked<'a>, Failure> {
-    let mut found = Asked {
+    let mut asked = Asked {
         options: PLAIN,
         calls: None,
         file: None,
     };
-    let mut skip = 0;
-    for (i, word) in args.iter().enumerate() {
-        if i >= skip {
-            skip = i.saturating_add(take(&mut found, word, args.get(i.saturating_add(1)))?);
-        }
+    let mut words = args;
+    while let Some((word, rest)) = words.split_first() {
+        words = asked.take(word, rest)?;
     }
-    Ok(found)
+    Ok(asked)
 }

@@ -1,6 +1,8 @@
-// Lines and columns of a text, for a person.
+// Lines and columns of a text, and its bytes as a person reads them.
+use std::fmt;
+
 // A place, with its line and column, both from 1, and where its line begins.
-#[derive(Clone, Copy)]
+#[derive(Clone, Copy, PartialEq, Eq, Debug)]
 pub struct Spot {
     pub place: usize,
     pub line: usize,
@@ -15,47 +17,76 @@ pub const FIRST: Spot = Spot {
     start: 0,
 };
 
-// The spot after one byte more.
-fn after(spot: Spot, byte: u8) -> Spot {
-    let place = spot.place.saturating_add(1);
-    if byte == b'\n' {
-        Spot {
-            place,
-            line: spot.line.saturating_add(1),
-            column: 1,
-            start: place,
+impl Spot {
+    // The spot after one byte more.
+    fn after(self, byte: u8) -> Spot {
+        let place = self.place.saturating_add(1);
+        if byte == b'\n' {
+            Spot {
+                place,
+                line: self.line.saturating_add(1),
+                column: 1,
+                start: place,
+            }
+        } else {
+            Spot {
+                place,
+                column: self.column.saturating_add(1),
+                ..self
+            }
         }
-    } else {
-        Spot {
-            place,
-            line: spot.line,
-            column: spot.column.saturating_add(1),
-            start: spot.start,
-        }
+    }
+
+    // Goes on from here to a later place of the text.
+    pub fn onward(self, text: &[u8], place: usize) -> Spot {
+        let passed = text.get(self.place..place.min(text.len()));
+        passed
+            .unwrap_or(&[])
+            .iter()
+            .fold(self, |spot, byte| spot.after(*byte))
     }
 }
 
-// Goes on from a spot to a later place.
-pub fn onward(text: &[u8], spot: Spot, place: usize) -> Spot {
-    let mut at = spot;
-    let from = spot.place;
-    let to = place.min(text.len());
-    if from < to {
-        for b in &text[from..to] {
-            at = after(at, *b);
+// Bytes as a terminal can show them: anything but printable ASCII becomes a dot.
+#[derive(Clone, Copy)]
+pub struct Shown<'a>(pub &'a [u8]);
+
+impl fmt::Display for Shown<'_> {
+    fn fmt<W: fmt::Write>(&self, f: &mut fmt::Formatter<W>) -> fmt::Result {
+        for byte in self.0 {
+            f.write_char(match *byte as char {
+                c @ ' '..='~' => c,
+                _ => '.',
+            })?;
         }
+        Ok(())
     }
-    at
+}
+
+// The line of a place, and a caret under it.
+#[derive(Clone, Copy)]
+pub struct Excerpt<'a> {
+    pub text: &'a [u8],
+    pub place: usize,
+}
+
+impl Excerpt<'_> {
+    pub fn spot(&self) -> Spot {
+        FIRST.onward(self.text, self.place)
+    }
+}
+
+impl fmt::Display for Excerpt<'_> {
+    fn fmt<W: fmt::Write>(&self, f: &mut fmt::Formatter<W>) -> fmt::Result {
+        let Spot { start, column, .. } = self.spot();
+        let line = Shown(line_from(self.text, start));
+        let caret = '^';
+        write!(f, "  {line}\n  {caret:>column$}")
+    }
 }
 
 // The line that begins at `start`.
-pub fn line_from(text: &[u8], start: usize) -> &[u8] {
-    let from = start.min(text.len());
-    let rest = &text[from..text.len()];
-    for (i, b) in rest.iter().enumerate() {
-        if *b == b'\n' {
-            return &rest[0..i];
-        }
-    }
-    rest
+fn line_from(text: &[u8], start: usize) -> &[u8] {
+    let rest = text.get(start..).unwrap_or(&[]);
+    rest.split(|byte| *byte == b'\n').next().unwrap_or(rest)
 }

@@ -1,222 +1,188 @@
 // play: what a person wants to see of a sheet that is played.
 use crate::failure::Failure;
-use crate::fault::{excerpt, place_of, shown};
+use crate::fault::place_of;
 use crate::loaded::from_file;
-use crate::meaning::of_stop;
+use crate::options::Options;
+use crate::place::{Excerpt, Shown};
+use crate::tree::name;
 use deck::deck::Deck;
+use nodes::node::Node;
 use packed::Packed;
 use player::player::Player;
 use rows::Rows;
-use semantics::call::Outcome;
+use semantics::call::{Outcome, Progress};
 use semantics::status::Status;
-use shelf::Shelf;
+use shelf::{LONGEST, SLOTS, Shelf};
 use std::alloc::{AllocError, Global};
 
-// How a sheet is to be played.
-#[derive(Clone, Copy)]
-pub struct Options {
-    // The most beats.
-    pub beats: u64,
-    // The portions that they are granted in, and whether each is shown.
-    pub grant: u16,
-    pub shows_portions: bool,
-    // Whether each beat is shown with what it changed.
-    pub trace: bool,
-    // So much room on a packed shelf, where it is said.
-    pub room: Option<usize>,
-    // The file is a card, whatever its name.
-    pub card: bool,
-}
-
-pub const PLAIN: Options = Options {
-    beats: 1000000,
-    grant: 65535,
-    shows_portions: false,
-    trace: false,
-    room: None,
-    card: false,
-};
-
 // The bytes that rows of 64 variables take.
-const ROWS: usize = 5120;
+pub const ROWS: usize = SLOTS * LONGEST;
 
 // What is told about a deck once it plays: the names, and its letters and nodes for messages.
 #[derive(Drop)]
-struct Told {
+struct About {
     names: Vec<String>,
     letters: Vec<u8>,
-    nodes: Vec<nodes::node::Node>,
+    nodes: Vec<Node>,
 }
 
-fn gather(heap: Global, deck: &Deck) -> Result<Told, AllocError> {
-    let mut names = Vec::new(heap);
-    for i in 0..deck.variables() {
-        names.push(name(heap, deck, i)?)?;
-    }
-    let letters = Vec::from_slice(heap, deck.letters())?;
-    let nodes = Vec::from_slice(heap, deck.nodes())?;
-    Ok(Told {
-        names,
-        letters,
-        nodes,
-    })
-}
-
-fn name(heap: Global, deck: &Deck, i: usize) -> Result<String, AllocError> {
-    match deck.node(i) {
-        Some(node) => {
-            let letters = deck.letters();
-            let to = (node.a as usize + node.b as usize).min(letters.len());
-            let from = (node.a as usize).min(to);
-            shown(heap, &letters[from..to])
+impl About {
+    fn gather(heap: Global, deck: &Deck) -> Result<About, AllocError> {
+        let mut names = Vec::new(heap);
+        for i in 0..deck.variables() {
+            let name = name(deck.letters(), deck.nodes(), i);
+            names.push(format!(in heap; "{name}")?)?;
         }
-        None => Ok(String::new(heap)),
+        Ok(About {
+            names,
+            letters: Vec::from_slice(heap, deck.letters())?,
+            nodes: Vec::from_slice(heap, deck.nodes())?,
+        })
     }
-}
 
-// A variable's value, as the screen would show it.
-fn value<S: Shelf>(heap: Global, player: &Player<S>, i: usize) -> Result<String, AllocError> {
-    let mut line = [0; 80];
-    match player.look(i, &mut line) {
-        Ok(Outcome::Number(n)) => format!(in heap; "{n}"),
-        Ok(Outcome::Text(length)) => {
-            let text = shown(heap, &line[0..length.min(80)])?;
-            format!(in heap; "\"{text}\"")
-        }
-        Err(refusal) => {
-            let number = refusal.number();
-            format!(in heap; "refused with {number}")
-        }
+    // The line of a statement.
+    fn excerpt(&self, node: u16) -> Option<Excerpt<'_>> {
+        let place = place_of(self.nodes.as_slice(), node)?;
+        Some(Excerpt {
+            text: self.letters.as_slice(),
+            place,
+        })
     }
-}
 
-fn values<S: Shelf>(
-    heap: Global,
-    player: &Player<S>,
-    count: usize,
-) -> Result<Vec<String>, AllocError> {
-    let mut all = Vec::new(heap);
-    for i in 0..count {
-        all.push(value(heap, player, i)?)?;
-    }
-    Ok(all)
-}
-
-// How the player stands, in words.
-fn show_status(rt: &HostRuntime, told: &Told, status: Status) -> Result<(), Failure> {
-    match status {
-        Status::Ready => println!(rt;
-            "ready: the beats that were granted are made, and the sheet goes on"
-        )?,
-        Status::Ended => println!(rt; "ended")?,
-        Status::Stopped { cause, node } => {
-            let number = cause.number();
-            let meaning = of_stop(cause);
-            println!(rt; "stopped with {number} at node {node}: {meaning}")?;
-            if let Some(place) = place_of(told.nodes.as_slice(), node) {
-                let under = excerpt(rt.alloc(), told.letters.as_slice(), place as usize)?;
-                rt.print(under)?;
-            }
-        }
-    }
-    Ok(())
-}
-
-// The variables that a beat changed.
-fn show_changes(
-    rt: &HostRuntime,
-    told: &Told,
-    before: &[String],
-    after: &[String],
-) -> Result<(), Failure> {
-    let both = before.iter().zip(after.iter());
-    for (name, (old, new)) in told.names.as_slice().iter().zip(both) {
-        if old.as_str() != new.as_str() {
-            println!(rt; "    {name} = {new}")?;
-        }
-    }
-    Ok(())
-}
-
-// One portion of beats.
-fn portion<S: Shelf>(
-    rt: &HostRuntime,
-    player: &mut Player<S>,
-    told: &Told,
-    options: Options,
-    made: u64,
-    grant: u16,
-) -> Result<(u64, Status), Failure> {
-    let heap = rt.alloc();
-    let count = told.names.len();
-    let before = if options.trace {
-        values(heap, player, count)?
-    } else {
-        Vec::new(heap)
-    };
-    let progress = player.play(grant);
-    let beats = progress.beats;
-    let total = made.saturating_add(beats as u64);
-    if options.trace && beats > 0 {
-        println!(rt; "beat {total}")?;
-        let after = values(heap, player, count)?;
-        show_changes(rt, told, before.as_slice(), after.as_slice())?;
-    }
-    if options.shows_portions {
-        println!(rt; "granted {grant}: made {beats}, {total} in all")?;
-    }
-    Ok((total, progress.status))
-}
-
-// Grants portions until the sheet ends or stops, or all beats are made.
-fn portions<S: Shelf>(
-    rt: &HostRuntime,
-    player: &mut Player<S>,
-    told: &Told,
-    options: Options,
-) -> Result<(u64, Status), Failure> {
-    let size = if options.trace {
-        1
-    } else {
-        options.grant.max(1)
-    };
-    let mut made = 0;
-    let mut status = player.play(0).status;
-    for turn in 0..options.beats {
-        let left = options.beats.saturating_sub(made);
-        let grant = left.min(size as u64).min(65535) as u16;
-        let (total, now) = portion(rt, player, told, options, made, grant)?;
-        made = total;
-        status = now;
-        if made >= options.beats {
-            return Ok((made, status));
-        }
+    // How the player stands, in words.
+    fn show_status(&self, rt: &HostRuntime, status: Status) -> Result<(), Failure> {
         match status {
-            Status::Ready => {
-                if turn % 1000 == 999 {
-                    eprintln!(rt; "pico: {made} beats so far")?;
+            Status::Ready => println!(rt;
+                "ready: the beats that were granted are made, and the sheet goes on"
+            )?,
+            Status::Ended => println!(rt; "ended")?,
+            Status::Stopped { cause, node } => {
+                let number = cause.number();
+                println!(rt; "stopped with {number} at node {node}: {cause}")?;
+                if let Some(excerpt) = self.excerpt(node) {
+                    println!(rt; "{excerpt}")?;
                 }
             }
-            _ => return Ok((made, status)),
         }
+        Ok(())
     }
-    Ok((made, status))
 }
 
-fn show_all<S: Shelf>(
-    rt: &HostRuntime,
-    player: &mut Player<S>,
-    told: &Told,
+// The text of this length that begins a line.
+pub fn text_in(line: &[u8; LONGEST], length: usize) -> Shown<'_> {
+    Shown(&line[..length.min(LONGEST)])
+}
+
+// A player that a person watches: how it is to be played, and the beats made so far.
+#[derive(Drop)]
+struct Show<'a, S: Shelf> {
+    rt: &'a HostRuntime,
+    player: &'a mut Player<S>,
+    about: &'a About,
     options: Options,
-) -> Result<(), Failure> {
-    let (made, status) = portions(rt, player, told, options)?;
-    println!(rt; "{made} beats")?;
-    show_status(rt, told, status)?;
-    let all = values(rt.alloc(), player, told.names.len())?;
-    for (name, value) in told.names.as_slice().iter().zip(all.as_slice().iter()) {
-        println!(rt; "{name} = {value}")?;
+    made: u64,
+}
+
+impl<S: Shelf> Show<'_, S> {
+    // A variable's value, as the screen would show it.
+    fn value(&self, i: usize) -> Result<String, AllocError> {
+        let heap = self.rt.alloc();
+        let mut line = [0; LONGEST];
+        match self.player.look(i, &mut line) {
+            Ok(Outcome::Number(n)) => format!(in heap; "{n}"),
+            Ok(Outcome::Text(length)) => {
+                let text = text_in(&line, length);
+                format!(in heap; "\"{text}\"")
+            }
+            Err(refusal) => {
+                let number = refusal.number();
+                format!(in heap; "refused with {number}")
+            }
+        }
     }
-    Ok(())
+
+    fn values(&self) -> Result<Vec<String>, AllocError> {
+        let mut all = Vec::new(self.rt.alloc());
+        // Stays: a loop that pushes, here and in `gather`, since each value may fail for want of memory, and a chain would carry that in each item.
+        for i in 0..self.about.names.len() {
+            all.push(self.value(i)?)?;
+        }
+        Ok(all)
+    }
+
+    // The variables that a beat changed.
+    fn show_changes(&self, before: &[String]) -> Result<(), Failure> {
+        let rt = self.rt;
+        let after = self.values()?;
+        let both = before.iter().zip(after.iter());
+        for (name, (old, new)) in self.about.names.iter().zip(both) {
+            if old != new {
+                println!(rt; "    {name} = {new}")?;
+            }
+        }
+        Ok(())
+    }
+
+    // One portion of beats.
+    fn portion(&mut self, grant: u16) -> Result<Status, Failure> {
+        let rt = self.rt;
+        let before = if self.options.trace {
+            Some(self.values()?)
+        } else {
+            None
+        };
+        let Progress { beats, status } = self.player.play(grant);
+        let made = self.made.saturating_add(beats as u64);
+        self.made = made;
+        if let Some(values) = before
+            && beats > 0
+        {
+            println!(rt; "beat {made}")?;
+            self.show_changes(values.as_slice())?;
+        }
+        if self.options.grant.is_some() {
+            println!(rt; "granted {grant}: made {beats}, {made} in all")?;
+        }
+        Ok(status)
+    }
+
+    // Grants portions until the sheet ends or stops, or all beats are made.
+    fn portions(&mut self) -> Result<Status, Failure> {
+        let rt = self.rt;
+        let beats = self.options.beats;
+        let most = if self.options.trace {
+            1
+        } else {
+            self.options.grant.unwrap_or(u16::MAX)
+        };
+        let mut status = self.player.play(0).status;
+        // Stays: a loop over a count, which bounds the portions and tells when to show how far it is.
+        for turn in 0..beats {
+            let left = beats.saturating_sub(self.made);
+            status = self.portion(u16::try_from(left).unwrap_or(u16::MAX).min(most))?;
+            if self.made >= beats || status != Status::Ready {
+                break;
+            }
+            if turn % 1000 == 999 {
+                let made = self.made;
+                eprintln!(rt; "pico: {made} beats so far")?;
+            }
+        }
+        Ok(status)
+    }
+
+    fn run(&mut self) -> Result<(), Failure> {
+        let rt = self.rt;
+        let status = self.portions()?;
+        let made = self.made;
+        println!(rt; "{made} beats")?;
+        self.about.show_status(rt, status)?;
+        let all = self.values()?;
+        for (name, value) in self.about.names.iter().zip(all.iter()) {
+            println!(rt; "{name} = {value}")?;
+        }
+        Ok(())
+    }
 }
 
 fn play_on<S: Shelf + Drop>(
@@ -225,9 +191,16 @@ fn play_on<S: Shelf + Drop>(
     shelf: S,
     options: Options,
 ) -> Result<(), Failure> {
-    let about = gather(rt.alloc(), &deck)?;
+    let about = About::gather(rt.alloc(), &deck)?;
     let mut player = Player::start(deck, shelf);
-    let outcome = show_all(rt, &mut player, &about, options);
+    let mut show = Show {
+        rt,
+        player: &mut player,
+        about: &about,
+        options,
+        made: 0,
+    };
+    let outcome = show.run();
     let _ = player.eject();
     outcome
 }

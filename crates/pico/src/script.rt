@@ -1,55 +1,39 @@
 // A script of calls, played through `perform`.
 use crate::failure::Failure;
-use crate::fault::shown;
 use crate::loaded::from_file;
-use anyhow::anyhow;
+use crate::play::{ROWS, text_in};
+use crate::tree::name;
+use anyhow::{Context, anyhow};
 use deck::deck::Deck;
 use player::perform::perform;
 use rows::Rows;
-use semantics::call::{Answer, Call, LookRefusal, Outcome};
+use semantics::call::{Answer, Call, Outcome, Progress};
 use semantics::status::Status;
-use shelf::Shelf;
+use shelf::LONGEST;
 use std::alloc::Global;
+use std::fmt;
 
-// The number of the variable with this name, or one that no variable has.
-fn variable(deck: &Deck, name: &str) -> usize {
+// The number of the variable with this name.
+fn variable(deck: &Deck, spelling: &str) -> Option<usize> {
     let letters = deck.letters();
-    for (i, node) in deck.nodes().iter().take(deck.variables()).enumerate() {
-        let to = (node.a as usize + node.b as usize).min(letters.len());
-        let from = (node.a as usize).min(to);
-        if &letters[from..to] == name.as_bytes() {
-            return i;
-        }
-    }
-    usize::MAX
-}
-
-fn grant(word: &str) -> Result<u16, Failure> {
-    match word.parse::<u16>() {
-        Ok(n) => Ok(n),
-        Err(_) => Err(Failure::Told(anyhow!("pico: play takes a number from 0 to 65535"))),
-    }
+    let nodes = deck.nodes();
+    (0..deck.variables()).position(|i| name(letters, nodes, i).0 == spelling.as_bytes())
 }
 
 // A call, as `play 7`, `look a` or `rewind`; a colon may stand for the space.
 fn call(deck: &Deck, text: &str) -> Result<Call, Failure> {
     let words = text.trim();
-    let pair = match words.split_once(':') {
-        Some(pair) => Some(pair),
-        None => words.split_once(' '),
-    };
-    match pair {
-        Some(("play", n)) => Ok(Call::Play(grant(n.trim())?)),
-        Some(("look", name)) => Ok(Call::Look {
-            of: variable(deck, name.trim()),
-            line: [0; 80],
-        }),
-        None => {
-            if words == "rewind" {
-                return Ok(Call::Rewind);
-            }
-            Err(Failure::Told(anyhow!("pico: a call is play N, look NAME or rewind")))
+    match words.split_once(':').or(words.split_once(' ')) {
+        Some(("play", n)) => {
+            let grant = n.trim().parse::<u16>();
+            Ok(Call::Play(grant.context("pico: play takes a number from 0 to 65535")?))
         }
+        // Where there is no such variable, the player is asked for one behind the last, and refuses it.
+        Some(("look", name)) => Ok(Call::Look {
+            of: variable(deck, name.trim()).unwrap_or(deck.variables()),
+            line: [0; LONGEST],
+        }),
+        None if words == "rewind" => Ok(Call::Rewind),
         _ => Err(Failure::Told(anyhow!("pico: a call is play N, look NAME or rewind"))),
     }
 }
@@ -62,47 +46,29 @@ fn calls(heap: Global, deck: &Deck, text: &str) -> Result<Vec<Call>, Failure> {
     Ok(all)
 }
 
-fn status_text(heap: Global, status: Status) -> Result<String, Failure> {
-    match status {
-        Status::Ready => Ok(String::from_str(heap, "ready")?),
-        Status::Ended => Ok(String::from_str(heap, "ended")?),
-        Status::Stopped { cause, node } => {
-            let number = cause.number();
-            Ok(format!(in heap; "stopped with {number} at node {node}")?)
-        }
-    }
-}
+// An answer, in a line.
+#[derive(Clone, Copy)]
+struct Told(Answer);
 
-fn seen_text(
-    heap: Global,
-    seen: Result<Outcome, LookRefusal>,
-    line: &[u8; 80],
-) -> Result<String, Failure> {
-    match seen {
-        Ok(Outcome::Number(value)) => Ok(format!(in heap; "look: {value}")?),
-        Ok(Outcome::Text(length)) => {
-            let text = shown(heap, &line[0..length.min(80)])?;
-            Ok(format!(in heap; "look: \"{text}\"")?)
+impl fmt::Display for Told {
+    fn fmt<W: fmt::Write>(&self, f: &mut fmt::Formatter<W>) -> fmt::Result {
+        match self.0 {
+            Answer::Played(Progress { beats, status }) => {
+                write!(f, "play: {beats} beats, {status}")
+            }
+            Answer::Rewound(status) => write!(f, "rewind: {status}"),
+            Answer::Looked { seen, line } => match seen {
+                Ok(Outcome::Number(value)) => write!(f, "look: {value}"),
+                Ok(Outcome::Text(length)) => {
+                    let text = text_in(&line, length);
+                    write!(f, "look: \"{text}\"")
+                }
+                Err(refusal) => {
+                    let number = refusal.number();
+                    write!(f, "look: refused with {number}")
+                }
+            },
         }
-        Err(refusal) => {
-            let number = refusal.number();
-            Ok(format!(in heap; "look: refused with {number}")?)
-        }
-    }
-}
-
-fn answer_text(heap: Global, answer: Answer) -> Result<String, Failure> {
-    match answer {
-        Answer::Played(progress) => {
-            let beats = progress.beats;
-            let status = status_text(heap, progress.status)?;
-            Ok(format!(in heap; "play: {beats} beats, {status}")?)
-        }
-        Answer::Rewound(status) => {
-            let now = status_text(heap, status)?;
-            Ok(format!(in heap; "rewind: {now}")?)
-        }
-        Answer::Looked { seen, line } => seen_text(heap, seen, &line),
     }
 }
 
@@ -111,10 +77,10 @@ pub fn play(rt: &HostRuntime, file: &str, text: &str, card: bool) -> Result<(), 
     let deck = from_file(rt, file, card)?;
     let script = calls(heap, &deck, text)?;
     let mut answers = vec![in heap; Answer::Rewound(Status::Ready); script.len()]?;
-    let shelf = Rows::new(vec![in heap; 0; 5120]?);
+    let shelf = Rows::new(vec![in heap; 0; ROWS]?);
     let _ = perform(deck, shelf, script.as_slice(), answers.as_mut_slice());
-    for answer in answers.as_slice() {
-        let line = answer_text(heap, *answer)?;
+    for answer in answers.iter() {
+        let line = Told(*answer);
         println!(rt; "{line}")?;
     }
     Ok(())

@@ -1,7 +1,9 @@
 -- What an expression's node is worth, by what it says.
-use Rattle.std.proofs.Common.{◌≡◌, ℕ, ◌+◌, ◌-◌, ◌<◌, ◌≤◌, Bool, true, false, cond, ltb, leb, List, [], ◌++◌, length, get_or, take, drop, replicate, Some, None, Ok, Err, Option, Result, sym, refl, ap, ◌∙◌, subst, ⊎_elim, append_assoc, arith, length-append, length-take}
+use Rattle.std.proofs.Common.{◌≡◌, ℕ, ◌+◌, ◌-◌, ◌<◌, ◌≤◌, Bool, true, false, cond, ltb, leb, ◌⊎◌, List, [], ◌++◌, length, get_or, take, drop, replicate, Some, None, Ok, Err, Option, Result, sym, refl, ap, ◌∙◌, subst, ⊎_elim, append_assoc, arith, length-append, length-take}
 use Rattle.std.proofs.lemmas.List.{get_or_past, take_at, append-nil}
-use Rattle.std.proofs.lemmas.Bool.{cond-true, cond-false, lt-ltb, le-leb, lt-leb, ltb-true, ltb-false, cases_lt}
+use Rattle.std.proofs.lemmas.Bool.{cond-true, cond-false, lt-ltb, le-ltb, le-leb, lt-leb, ltb-true, ltb-false, cases_lt}
+use Rattle.std.specs.Option.{SomeIff, ok_or}
+use Rattle.std.specs.Result.{IsErrAnd, IsOkAnd, MatchResult, result_unwrap_or}
 use Rattle.nodes.specs.Nodes.{view_at, kinds, integer, string}
 use Rattle.nodes.specs.declared.view.View.{View}
 use Rattle.deck.specs.Sound.{Right, Leads, kind_in}
@@ -9,8 +11,8 @@ use Rattle.deck.specs.Sheets.{sheet_of}
 use Rattle.deck.specs.declared.deck.Deck.{Deck}
 use Rattle.deck.proofs.OfDeck.{sound}
 use Rattle.shelf.specs.Limits.{longest, largest}
-use Rattle.shelf.specs.Value.{Value, number, text, num_of, bytes_of, over}
-use Rattle.shelf.specs.Calls.{the_number, number_told, the_text, text_told}
+use Rattle.shelf.specs.Value.{Value, number, text, num_of, bytes_of}
+use Rattle.shelf.specs.Calls.{the_text, text_told}
 use Rattle.shelf.specs.declared.refusal.Refusal.{Refusal}
 use Rattle.shelf.specs.declared.refusal.Refusal.TheVariants.{NoEntry}
 use Rattle.semantics.specs.declared.status.Cause.{Cause}
@@ -21,7 +23,7 @@ use Rattle.semantics.specs.Syntax.{Expr, var, num, str, plus, conc, expression}
 use Rattle.semantics.specs.Expressions.{added, joined, value}
 use Rattle.semantics.specs.Calls.{seen_as, seen}
 use Rattle.semantics.proofs.Expressions.{Fine, expression_fine, expression_is, build}
-use Rattle.player.specs.Evaluation.{Computed, numbered, beyond, amount_of, sum_of, ends_of, ending, Appended, Spelled, spelling}
+use Rattle.player.specs.Evaluation.{Computed, numbered, sum_of, ending, Appended, Spelled, spelling}
 use Rattle.nodes.specs.declared.view.View.TheVariants as V
 
 -- numbers
@@ -40,63 +42,22 @@ numbered_added (Ok u) (Ok x) = within_number (ltb 4294967295 (num_of u + num_of 
 numbered_added (Ok u) (Err c) = refl
 numbered_added (Err c) w = refl
 
-amount_summed : (r s : Result ℕ Cause) → amount_of (summed r s) ≡ sum_of (amount_of r) (amount_of s)
+-- what `?` hands on
+pub handed_on : {A : Type 0} (r : Result A Cause) (c : Cause) → IsErrAnd r (λ x. x ≡ c) → r ≡ Err c
+handed_on (Ok a) c h = absurd h
+handed_on (Err x) c h = ap (λ y. Err y) h
+
+-- the same, as code adds: checked, or too large
+pub checked_sum : (m n : ℕ) (o : Option ℕ) → SomeIff o (m + n < 4294967296) (m + n) → ok_or o SumTooLarge ≡ sum_of m n
+checked_sum m n None h = ⊎_elim (λ (l : m + n < 4294967296). absurd (h l)) (λ (l : 4294967296 ≤ m + n). sym (cond-true (ltb 4294967295 (m + n)) (Err SumTooLarge) (Ok (m + n)) (lt-ltb 4294967295 (m + n) (omega arith)))) (cases_lt (m + n) 4294967296)
+checked_sum m n (Some x) h = let l = h.0 in ap (λ y. Ok y) h.1 ∙ sym (cond-false (ltb 4294967295 (m + n)) (Err SumTooLarge) (Ok (m + n)) (le-ltb 4294967295 (m + n) (omega arith)))
+
+pub sum_summed : (m n : ℕ) → sum_of m n ≡ summed (Ok m) (Ok n)
 unfolding summed
-amount_summed (Ok m) (Ok n) = by (ltb largest (m + n))
-  where
-    by : (b : Bool) → amount_of (cond b (Err SumTooLarge) (Ok (m + n))) ≡ cond b beyond (m + n)
-    by true = refl
-    by false = refl
-amount_summed (Ok m) (Err c) = sym (cond-true (ltb largest (m + beyond)) beyond (m + beyond) (lt-ltb largest (m + beyond) (omega arith)))
-amount_summed (Err c) s = sym (cond-true (ltb largest (beyond + amount_of s)) beyond (beyond + amount_of s) (lt-ltb largest (beyond + amount_of s) (omega arith)))
-
--- a number within its limit, or stopped for a sum
-abbrev pub Sums : Result ℕ Cause → Type 0
-Sums (Ok n) = n ≤ largest
-Sums (Err c) = c ≡ SumTooLarge
-
-pub sums_over : (r : Result ℕ Cause) (x : ℕ) → Sums r → x ≡ amount_of r → largest < x → Err SumTooLarge ≡ r
-sums_over (Ok n) x h e l = absurd (omega arith)
-sums_over (Err c) x h e l = ap (λ y. Err y) (sym h)
-
-pub sums_within : (r : Result ℕ Cause) (x : ℕ) → Sums r → x ≡ amount_of r → x ≤ largest → Ok x ≡ r
-sums_within (Ok n) x h e l = ap (λ y. Ok y) e
-sums_within (Err c) x h e l = absurd (omega arith)
-
-small_number : (v : Value) → over v ≡ false → num_of v ≤ largest
-small_number (number n) h = ltb-false largest n h
-small_number (text t) h = omega arith
-
-sums_summed : (r s : Result ℕ Cause) → Sums r → Sums s → Sums (summed r s)
-unfolding summed
-sums_summed (Ok m) (Ok n) h k = by (ltb largest (m + n)) refl
-  where
-    by : (b : Bool) → ltb largest (m + n) ≡ b → Sums (cond b (Err SumTooLarge) (Ok (m + n)))
-    by true e = refl
-    by false e = ltb-false largest (m + n) e
-sums_summed (Ok m) (Err c) h k = k
-sums_summed (Err c) s h k = h
-
-sums_added : (v w : Result Value Cause) → Sums (numbered v) → Sums (numbered w) → Sums (numbered (added v w))
-sums_added v w h k = subst Sums (sym (numbered_added v w)) (sums_summed (numbered v) (numbered w) h k)
-
-sums_only : (ks : List ℕ) (vs : List Value) → ((n : ℕ) → over (get_or vs n (number 0)) ≡ false) → (e : Expr) → Fine ks 1 e → Sums (numbered (value vs e))
-sums_only ks vs h (var i) f = small_number (get_or vs i (number 0)) (h i)
-sums_only ks vs h (num n) f = f.0
-sums_only ks vs h (str t) f = let g = f.1 in absurd (omega arith)
-sums_only ks vs h (plus x y) f = sums_added (value vs x) (value vs y) (sums_only ks vs h x f.1) (sums_only ks vs h y f.2)
-sums_only ks vs h (conc x y) f = let g = f.0 in absurd (omega arith)
+sum_summed m n = refl
 
 past_zero : (vs : List Value) (c : ℕ) → ltb c (length vs) ≡ false → get_or vs c (number 0) ≡ number 0
 past_zero vs c e = get_or_past vs c (number 0) (ltb-false c (length vs) e)
-
-pub told_none : (vs : List Value) (c : ℕ) (x : Refusal) → Err x ≡ number_told c vs → 0 ≡ num_of (get_or vs c (number 0))
-told_none vs c x = by (ltb c (length vs)) (get_or vs c (number 0)) (past_zero vs c)
-  where
-    by : (b : Bool) (v : Value) → (b ≡ false → v ≡ number 0) → Err x ≡ cond b (the_number v) (Err NoEntry) → 0 ≡ num_of v
-    by true (number n) h e = let z : ◌≡◌ {A = ℕ} 0 1 = cc in absurd (omega arith)
-    by true (text t) h e = refl
-    by false v h e = ap num_of (sym (h refl))
 
 -- texts
 told_text : (vs : List Value) (c n : ℕ) (l : List ℕ) → Ok n ≡ (text_told c vs l).answer → (n ≡ length (bytes_of (get_or vs c (number 0)))) × (bytes_of (get_or vs c (number 0)) ≡ take n (text_told c vs l).line) × (get_or vs c (number 0) ≡ text (bytes_of (get_or vs c (number 0))))
@@ -143,13 +104,6 @@ appended_join l m k at mid a b r p q =
           ap (λ n. take n k) (sym f) ∙ q.line (omega arith)
           ∙ ap (λ x. x ++ b) (ap (λ n. take n m) e.1 ∙ p.line e.0) ∙ append_assoc (take at l) a b;
     }
-
--- a place in the line, and one past it
-pub in_line : (r : ℕ) → r ≤ longest → ends_of r ≡ Some r
-in_line r h = cond-true (leb r longest) (Some r) None (le-leb r longest h)
-
-pub past_line : (r : ℕ) → longest < r → ends_of r ≡ None
-past_line r h = cond-false (leb r longest) (Some r) None (lt-leb r longest h)
 
 joined_by : (b : Bool) (t : List ℕ) (l k : List ℕ) (at : ℕ) (r : Option ℕ) → ltb 80 (length t) ≡ b → Appended l k at t r → Spelled (cond b (Err TextTooLong) (Ok (text t))) l k at r
 joined_by true t l k at r e p = let h = ltb-true 80 (length t) e in (p.says ∙ too_long at (length t) (omega arith), refl)
@@ -211,9 +165,23 @@ computed_spelled (Ok (text t)) l m r h p =
     (ap spelling e, p.1, ap (λ n. take n m) (sym z) ∙ p.0.line (omega arith))
 computed_spelled (Err c) l m r h p = ap spelling p.0 ∙ ap (λ x. Err x) (sym p.1)
 
+-- what the evaluator makes of where a text ends
+pub spelling_ok : (r : Option ℕ) (n : ℕ) → Ok n ≡ ok_or r TextTooLong → Ok (Text n) ≡ spelling r
+spelling_ok None n e = let z : ◌≡◌ {A = ℕ} 0 1 = cc in absurd (omega arith)
+spelling_ok (Some m) n e = let f : n ≡ m = cc in ap (λ y. Ok (Text y)) f
+
+pub spelling_err : (r : Option ℕ) (c : Cause) → Err c ≡ ok_or r TextTooLong → Err c ≡ spelling r
+spelling_err None c e = let f : c ≡ TextTooLong = cc in ap (λ y. Err y) f
+spelling_err (Some m) c e = let z : ◌≡◌ {A = ℕ} 0 1 = cc in absurd (omega arith)
+
 computed_stopped : (v : Result Value Cause) (c : Cause) (m : List ℕ) → Err c ≡ numbered v → Computed v (Err c) m
 computed_stopped (Ok u) c m e = let z : ◌≡◌ {A = ℕ} 0 1 = cc in absurd (omega arith)
 computed_stopped (Err d) c m e = let f : c ≡ d = cc in ap (λ y. Err y) f
+
+-- where a text ends is a place in the line
+pub mid_fits : (v : Result Value Cause) (l m : List ℕ) (at mid : ℕ) → Spelled v l m at (Some mid) → mid ≤ longest
+mid_fits (Ok u) l m at mid p = let e = ends_since at (length (bytes_of u)) mid p.0.says in let f = e.0 in let g = e.1 in omega arith
+mid_fits (Err c) l m at mid p = let e = p.0 in let z : ◌≡◌ {A = ℕ} 0 1 = cc in absurd (omega arith)
 
 -- where a variable's entry is seen
 seen_computed : (vs : List Value) (n : ℕ) (y : Outcome) (l m : List ℕ) → length (bytes_of (get_or vs n (number 0))) ≤ longest → Ok y ≡ (seen vs n l).answer → m ≡ (seen vs n l).line → Computed (Ok (get_or vs n (number 0))) (Ok y) m
@@ -268,6 +236,13 @@ module _ (d : Deck) (i : ℕ) (x : View) (ex : x ≡ view_at (sheet_of d).nodes 
   pub conc_leads : (a b : ℕ) → x ≡ V.Conc a b → Leads (sheet_of d) i a string × Leads (sheet_of d) i b string
   conc_leads a b e = right_as (V.Conc a b) e
 
+  -- a text constant or a join
+  abbrev pub Joins : Type 0
+  Joins = ((p : ℕ) × (s : ℕ) × (x ≡ V.Text p s)) ⊎ ((a : ℕ) × (b : ℕ) × (x ≡ V.Conc a b))
+
+  pub kind_joins : Joins → kind_in (kinds (sheet_of d)) (view_at (sheet_of d).nodes i) ≡ string
+  kind_joins = ⊎_elim (λ t. kind_as (V.Text t.0 t.1) t.2) (λ t. kind_as (V.Conc t.0 t.1) t.2)
+
   pub text_fits : (p s : ℕ) → x ≡ V.Text p s → (s ≤ longest) × (p + s ≤ length (sheet_of d).letters)
   text_fits p s e = right_as (V.Text p s) e
 
@@ -294,41 +269,28 @@ module _ (d : Deck) (i : ℕ) (x : View) (ex : x ≡ view_at (sheet_of d).nodes 
     value_as w e = ap (value vs) (expression_is (sheet_of d) (sound d) i ∙ ap (build (sheet_of d).letters (expression (sheet_of d))) (sym ex ∙ e))
 
     -- numbers
-    amount_as : (w : View) → x ≡ w → amount_of (numbered (value vs (expression (sheet_of d) i))) ≡ amount_of (numbered (value vs (build (sheet_of d).letters (expression (sheet_of d)) w)))
-    amount_as w e = ap (λ v. amount_of (numbered v)) (value_as w e)
+    numbered_as : (w : View) → x ≡ w → numbered (value vs (expression (sheet_of d) i)) ≡ numbered (value vs (build (sheet_of d).letters (expression (sheet_of d)) w))
+    numbered_as w e = ap numbered (value_as w e)
 
-    pub sum_variable : (p s n y : ℕ) → x ≡ V.Variable p s n → y ≡ num_of (get_or vs n (number 0)) → y ≡ amount_of (numbered (value vs (expression (sheet_of d) i)))
-    sum_variable p s n y e q = q ∙ sym (amount_as (V.Variable p s n) e)
+    pub amount_variable : (p s n y : ℕ) → x ≡ V.Variable p s n → y ≡ num_of (get_or vs n (number 0)) → Ok y ≡ numbered (value vs (expression (sheet_of d) i))
+    amount_variable p s n y e q = ap (λ z. Ok z) q ∙ sym (numbered_as (V.Variable p s n) e)
 
-    pub sum_number : (n : ℕ) → x ≡ V.Number n → n ≡ amount_of (numbered (value vs (expression (sheet_of d) i)))
-    sum_number n e = sym (amount_as (V.Number n) e)
+    pub amount_number : (n : ℕ) → x ≡ V.Number n → Ok n ≡ numbered (value vs (expression (sheet_of d) i))
+    amount_number n e = sym (numbered_as (V.Number n) e)
 
-    pub sum_plus : (a b m n r : ℕ) → x ≡ V.Plus a b → m ≡ amount_of (numbered (value vs (expression (sheet_of d) a))) → n ≡ amount_of (numbered (value vs (expression (sheet_of d) b))) → r ≡ sum_of m n → r ≡ amount_of (numbered (value vs (expression (sheet_of d) i)))
-    sum_plus a b m n r k e f q =
-        q ∙ ap (λ y. sum_of y n) e ∙ ap (λ z. sum_of (amount_of (numbered (value vs (expression (sheet_of d) a)))) z) f
-        ∙ sym (amount_as (V.Plus a b) k ∙ ap amount_of (numbered_added (value vs (expression (sheet_of d) a)) (value vs (expression (sheet_of d) b))) ∙ amount_summed (numbered (value vs (expression (sheet_of d) a))) (numbered (value vs (expression (sheet_of d) b))))
+    pub amount_plus : (a b : ℕ) (r m n : Result ℕ Cause) → x ≡ V.Plus a b → m ≡ numbered (value vs (expression (sheet_of d) a)) → n ≡ numbered (value vs (expression (sheet_of d) b)) → r ≡ summed m n → r ≡ numbered (value vs (expression (sheet_of d) i))
+    amount_plus a b r m n k e f q =
+        q ∙ ap (λ y. summed y n) e ∙ ap (λ z. summed (numbered (value vs (expression (sheet_of d) a))) z) f
+        ∙ sym (numbered_as (V.Plus a b) k ∙ numbered_added (value vs (expression (sheet_of d) a)) (value vs (expression (sheet_of d) b)))
 
-    -- it is a number, or stopped for a sum
-    sums_as : ((n : ℕ) → over (get_or vs n (number 0)) ≡ false) → (kind_in (kinds (sheet_of d)) (view_at (sheet_of d).nodes i) ≡ string → ⊥) → (w : View) → x ≡ w → Sums (numbered (value vs (build (sheet_of d).letters (expression (sheet_of d)) w)))
-    sums_as h t (V.Variable p s n) e = small_number (get_or vs n (number 0)) (h n)
-    sums_as h t (V.Number v) e = right_as (V.Number v) e
-    sums_as h t (V.Text p s) e = absurd (t (kind_as (V.Text p s) e))
-    sums_as h t (V.Conc a b) e = absurd (t (kind_as (V.Conc a b) e))
-    sums_as h t (V.Plus a b) e =
-        let l = plus_leads a b e in
-        sums_added (value vs (expression (sheet_of d) a)) (value vs (expression (sheet_of d) b))
-        (sums_only (kinds (sheet_of d)) vs h (expression (sheet_of d) a) (expression_fine (sheet_of d) (sound d) i a 1 l.0 (λ z. omega arith)))
-        (sums_only (kinds (sheet_of d)) vs h (expression (sheet_of d) b) (expression_fine (sheet_of d) (sound d) i b 1 l.1 (λ z. omega arith)))
-    sums_as h t (V.Declaration p s k) e = omega arith
-    sums_as h t (V.Assign a b) e = omega arith
-    sums_as h t (V.If a b c) e = omega arith
-    sums_as h t (V.While a b) e = omega arith
-    sums_as h t (V.Series a b) e = omega arith
-    sums_as h t V.Empty e = omega arith
-    sums_as h t V.Unknown e = omega arith
+    -- where a part of it stops
+    pub amount_right : (a b m : ℕ) (c : Cause) → x ≡ V.Plus a b → Ok m ≡ numbered (value vs (expression (sheet_of d) a)) → Err c ≡ numbered (value vs (expression (sheet_of d) b)) → Err c ≡ numbered (value vs (expression (sheet_of d) i))
+    unfolding summed
+    amount_right a b m c k e f = amount_plus a b (Err c) (Ok m) (Err c) k e f refl
 
-    pub sums_at : ((n : ℕ) → over (get_or vs n (number 0)) ≡ false) → (kind_in (kinds (sheet_of d)) (view_at (sheet_of d).nodes i) ≡ string → ⊥) → Sums (numbered (value vs (expression (sheet_of d) i)))
-    sums_at h t = subst (λ v. Sums (numbered v)) (sym (value_as x refl)) (sums_as h t x refl)
+    pub amount_stopped : (a b : ℕ) (c : Cause) → x ≡ V.Plus a b → Err c ≡ numbered (value vs (expression (sheet_of d) a)) → Err c ≡ numbered (value vs (expression (sheet_of d) i))
+    unfolding summed
+    amount_stopped a b c k e = amount_plus a b (Err c) (Err c) (numbered (value vs (expression (sheet_of d) b))) k e refl refl
 
     -- a node that is no expression
     rest_as : (w : View) → x ≡ w → ((p s n : ℕ) → x ≡ V.Variable p s n → ⊥) → ((n : ℕ) → x ≡ V.Number n → ⊥) → ((p s : ℕ) → x ≡ V.Text p s → ⊥) → ((a b : ℕ) → x ≡ V.Plus a b → ⊥) → ((a b : ℕ) → x ≡ V.Conc a b → ⊥) → value vs (build (sheet_of d).letters (expression (sheet_of d)) w) ≡ Ok (number 0)
@@ -345,9 +307,9 @@ module _ (d : Deck) (i : ℕ) (x : View) (ex : x ≡ view_at (sheet_of d).nodes 
     rest_as V.Empty e hv hn ht hp hc = refl
     rest_as V.Unknown e hv hn ht hp hc = refl
 
-    pub sum_rest : (kind_in (kinds (sheet_of d)) (view_at (sheet_of d).nodes i) ≡ string → ⊥) → ((p s n : ℕ) → x ≡ V.Variable p s n → ⊥) → ((n : ℕ) → x ≡ V.Number n → ⊥) → ((a b : ℕ) → x ≡ V.Plus a b → ⊥) → 0 ≡ amount_of (numbered (value vs (expression (sheet_of d) i)))
-    sum_rest t hv hn hp =
-        sym (ap (λ v. amount_of (numbered v)) (value_as x refl ∙ rest_as x refl hv hn (λ p s e. t (kind_as (V.Text p s) e)) hp (λ a b e. t (kind_as (V.Conc a b) e))))
+    pub amount_rest : (kind_in (kinds (sheet_of d)) (view_at (sheet_of d).nodes i) ≡ string → ⊥) → ((p s n : ℕ) → x ≡ V.Variable p s n → ⊥) → ((n : ℕ) → x ≡ V.Number n → ⊥) → ((a b : ℕ) → x ≡ V.Plus a b → ⊥) → Ok 0 ≡ numbered (value vs (expression (sheet_of d) i))
+    amount_rest t hv hn hp =
+        sym (ap numbered (value_as x refl ∙ rest_as x refl hv hn (λ p s e. t (kind_as (V.Text p s) e)) hp (λ a b e. t (kind_as (V.Conc a b) e))))
 
     -- texts
     pub spell_variable : (p s c n : ℕ) (t₀ t y l m : List ℕ) (at : ℕ) (r : Option ℕ) → length (bytes_of (get_or vs c (number 0))) ≤ longest → x ≡ V.Variable p s c → Ok n ≡ (text_told c vs t₀).answer → t ≡ (text_told c vs t₀).line → y ≡ take n t → Appended l m at y r → Spelled (value vs (expression (sheet_of d) i)) l m at r
@@ -356,11 +318,11 @@ module _ (d : Deck) (i : ℕ) (x : View) (ex : x ≡ view_at (sheet_of d).nodes 
         let w : y ≡ bytes_of (get_or vs c (number 0)) = q ∙ ap (take n) f ∙ sym b.1 in
         subst (λ v. Spelled v l m at r) (sym (value_as (V.Variable p s c) k)) (subst (λ z. Appended l m at z r) w a, short)
 
-    pub spell_no_entry : (p s c : ℕ) (n : Refusal) (t₀ l : List ℕ) (at : ℕ) → at ≤ longest → x ≡ V.Variable p s c → Err n ≡ (text_told c vs t₀).answer → Spelled (value vs (expression (sheet_of d) i)) l l at (ends_of at)
+    pub spell_no_entry : (p s c : ℕ) (n : Refusal) (t₀ l : List ℕ) (at : ℕ) → at ≤ longest → x ≡ V.Variable p s c → Err n ≡ (text_told c vs t₀).answer → Spelled (value vs (expression (sheet_of d) i)) l l at (Some at)
     spell_no_entry p s c n t₀ l at a k e =
         let b = told_no_text vs c n t₀ e in
         let z : length (bytes_of (get_or vs c (number 0))) ≡ 0 = ap length b in
-        subst (λ r. Spelled (value vs (expression (sheet_of d) i)) l l at r) (sym (in_line at a)) (subst (λ v. Spelled v l l at (Some at)) (sym (value_as (V.Variable p s c) k)) (subst (λ y. Appended l l at y (Some at)) (sym b) (nothing_added l at a), omega arith))
+        subst (λ v. Spelled v l l at (Some at)) (sym (value_as (V.Variable p s c) k)) (subst (λ y. Appended l l at y (Some at)) (sym b) (nothing_added l at a), omega arith)
 
     pub spell_text : (p s n : ℕ) (y l m : List ℕ) (at : ℕ) (r : Option ℕ) → x ≡ V.Text p s → n ≡ s → y ≡ take n (drop p (sheet_of d).letters) → Appended l m at y r → Spelled (value vs (expression (sheet_of d) i)) l m at r
     spell_text p s n y l m at r k q e a =
@@ -369,35 +331,37 @@ module _ (d : Deck) (i : ℕ) (x : View) (ex : x ≡ view_at (sheet_of d).nodes 
         let c : length (take s (drop p (sheet_of d).letters)) ≤ longest = (let g = length-take s (drop p (sheet_of d).letters) in omega arith) in
         subst (λ v. Spelled v l m at r) (sym (value_as (V.Text p s) k)) (subst (λ j. Appended l m at j r) z a, c)
 
-    pub spell_conc : (a b : ℕ) (l m o : List ℕ) (at mid : ℕ) (r : Option ℕ) → mid ≤ longest → x ≡ V.Conc a b → Spelled (value vs (expression (sheet_of d) a)) l m at (ends_of mid) → Spelled (value vs (expression (sheet_of d) b)) m o mid r → Spelled (value vs (expression (sheet_of d) i)) l o at r
-    spell_conc a b l m o at mid r h k p q =
-        subst (λ v. Spelled v l o at r) (sym (value_as (V.Conc a b) k))
-        (spelled_join (value vs (expression (sheet_of d) a)) (value vs (expression (sheet_of d) b)) l m o at mid r (subst (Spelled (value vs (expression (sheet_of d) a)) l m at) (in_line mid h) p) q)
+    pub spell_conc : (a b : ℕ) (l m o : List ℕ) (at mid : ℕ) (r : Option ℕ) → x ≡ V.Conc a b → Spelled (value vs (expression (sheet_of d) a)) l m at (Some mid) → Spelled (value vs (expression (sheet_of d) b)) m o mid r → Spelled (value vs (expression (sheet_of d) i)) l o at r
+    spell_conc a b l m o at mid r k p q =
+        subst (λ v. Spelled v l o at r) (sym (value_as (V.Conc a b) k)) (spelled_join (value vs (expression (sheet_of d) a)) (value vs (expression (sheet_of d) b)) l m o at mid r p q)
 
-    pub spell_conc_none : (a b : ℕ) (l m : List ℕ) (at mid : ℕ) → longest < mid → x ≡ V.Conc a b → Spelled (value vs (expression (sheet_of d) a)) l m at (ends_of mid) → Spelled (value vs (expression (sheet_of d) i)) l m at (ends_of mid)
-    spell_conc_none a b l m at mid h k p =
-        subst (Spelled (value vs (expression (sheet_of d) i)) l m at) (sym (past_line mid h))
-        (subst (λ v. Spelled v l m at None) (sym (value_as (V.Conc a b) k))
+    pub spell_conc_none : (a b : ℕ) (l m : List ℕ) (at : ℕ) → x ≡ V.Conc a b → Spelled (value vs (expression (sheet_of d) a)) l m at None → Spelled (value vs (expression (sheet_of d) i)) l m at None
+    spell_conc_none a b l m at k p =
+        subst (λ v. Spelled v l m at None) (sym (value_as (V.Conc a b) k))
         (spelled_none (value vs (expression (sheet_of d) a)) (value vs (expression (sheet_of d) b)) l m at
-        (long_only (kinds (sheet_of d)) vs (expression (sheet_of d) b) (expression_fine (sheet_of d) (sound d) i b 2 (conc_leads a b k).1 (λ z. omega arith))) (subst (Spelled (value vs (expression (sheet_of d) a)) l m at) (past_line mid h) p)))
+        (long_only (kinds (sheet_of d)) vs (expression (sheet_of d) b) (expression_fine (sheet_of d) (sound d) i b 2 (conc_leads a b k).1 (λ z. omega arith))) p)
 
     -- the whole
-    pub computed_variable : (p s n : ℕ) (y : Outcome) (l m : List ℕ) → length (bytes_of (get_or vs n (number 0))) ≤ longest → x ≡ V.Variable p s n → Ok y ≡ (seen vs n l).answer → m ≡ (seen vs n l).line → Computed (value vs (expression (sheet_of d) i)) (Ok y) m
+    computed_variable : (p s n : ℕ) (y : Outcome) (l m : List ℕ) → length (bytes_of (get_or vs n (number 0))) ≤ longest → x ≡ V.Variable p s n → Ok y ≡ (seen vs n l).answer → m ≡ (seen vs n l).line → Computed (value vs (expression (sheet_of d) i)) (Ok y) m
     computed_variable p s n y l m short k e f = subst (λ v. Computed v (Ok y) m) (sym (value_as (V.Variable p s n) k)) (seen_computed vs n y l m short e f)
 
-    pub computed_no_entry : (p s n : ℕ) (y : Refusal) (l m : List ℕ) → x ≡ V.Variable p s n → Err y ≡ (seen vs n l).answer → Computed (value vs (expression (sheet_of d) i)) (Ok (Number 0)) m
+    computed_no_entry : (p s n : ℕ) (y : Refusal) (l m : List ℕ) → x ≡ V.Variable p s n → Err y ≡ (seen vs n l).answer → Computed (value vs (expression (sheet_of d) i)) (Ok (Number 0)) m
     computed_no_entry p s n y l m k e = subst (λ v. Computed v (Ok (Number 0)) m) (sym (value_as (V.Variable p s n) k)) (seen_none vs n y l m e)
 
-    pub computed_text : (p s : ℕ) (l m : List ℕ) (r : Option ℕ) (w : Result Outcome Cause) → x ≡ V.Text p s → Spelled (value vs (expression (sheet_of d) i)) l m 0 r → w ≡ spelling r → Computed (value vs (expression (sheet_of d) i)) w m
+    pub computed_seen : (p s n : ℕ) (y : Result Outcome Refusal) (l m : List ℕ) (w : Outcome) → length (bytes_of (get_or vs n (number 0))) ≤ longest → x ≡ V.Variable p s n → y ≡ (seen vs n l).answer → m ≡ (seen vs n l).line → w ≡ result_unwrap_or y (Number 0) → Computed (value vs (expression (sheet_of d) i)) (Ok w) m
+    computed_seen p s n (Ok y) l m w short k e f q = subst (λ z. Computed (value vs (expression (sheet_of d) i)) (Ok z) m) (sym q) (computed_variable p s n y l m short k e f)
+    computed_seen p s n (Err y) l m w short k e f q = subst (λ z. Computed (value vs (expression (sheet_of d) i)) (Ok z) m) (sym q) (computed_no_entry p s n y l m k e)
+
+    computed_text : (p s : ℕ) (l m : List ℕ) (r : Option ℕ) (w : Result Outcome Cause) → x ≡ V.Text p s → Spelled (value vs (expression (sheet_of d) i)) l m 0 r → w ≡ spelling r → Computed (value vs (expression (sheet_of d) i)) w m
     unfolding Texty
     computed_text p s l m r w k q e = subst (λ y. Computed (value vs (expression (sheet_of d) i)) y m) (sym e) (computed_spelled (value vs (expression (sheet_of d) i)) l m r (subst Texty (sym (value_as (V.Text p s) k)) tt) q)
 
-    pub computed_conc : (a b : ℕ) (l m : List ℕ) (r : Option ℕ) (w : Result Outcome Cause) → x ≡ V.Conc a b → Spelled (value vs (expression (sheet_of d) i)) l m 0 r → w ≡ spelling r → Computed (value vs (expression (sheet_of d) i)) w m
+    computed_conc : (a b : ℕ) (l m : List ℕ) (r : Option ℕ) (w : Result Outcome Cause) → x ≡ V.Conc a b → Spelled (value vs (expression (sheet_of d) i)) l m 0 r → w ≡ spelling r → Computed (value vs (expression (sheet_of d) i)) w m
     unfolding Texty
     computed_conc a b l m r w k q e = subst (λ y. Computed (value vs (expression (sheet_of d) i)) y m) (sym e) (computed_spelled (value vs (expression (sheet_of d) i)) l m r (subst Texty (sym (value_as (V.Conc a b) k)) (joined_texty (value vs (expression (sheet_of d) a)) (value vs (expression (sheet_of d) b)))) q)
 
-    pub computed_err : (c : Cause) (m : List ℕ) → Err c ≡ numbered (value vs (expression (sheet_of d) i)) → Computed (value vs (expression (sheet_of d) i)) (Err c) m
-    computed_err c m e = computed_stopped (value vs (expression (sheet_of d) i)) c m e
+    pub computed_joins : Joins → (l m : List ℕ) (r : Option ℕ) (w : Result Outcome Cause) → Spelled (value vs (expression (sheet_of d) i)) l m 0 r → w ≡ spelling r → Computed (value vs (expression (sheet_of d) i)) w m
+    computed_joins t l m r w q e = ⊎_elim (λ h. computed_text h.0 h.1 l m r w h.2 q e) (λ h. computed_conc h.0 h.1 l m r w h.2 q e) t
 
     numeric_as : (w : View) → x ≡ w → ((p s n : ℕ) → x ≡ V.Variable p s n → ⊥) → ((p s : ℕ) → x ≡ V.Text p s → ⊥) → ((a b : ℕ) → x ≡ V.Conc a b → ⊥) → Numeric (value vs (build (sheet_of d).letters (expression (sheet_of d)) w))
     unfolding Numeric
@@ -414,6 +378,8 @@ module _ (d : Deck) (i : ℕ) (x : View) (ex : x ≡ view_at (sheet_of d).nodes 
     numeric_as V.Empty e hv ht hc = tt
     numeric_as V.Unknown e hv ht hc = tt
 
-    pub computed_number : (n : ℕ) (m : List ℕ) → ((p s n : ℕ) → x ≡ V.Variable p s n → ⊥) → ((p s : ℕ) → x ≡ V.Text p s → ⊥) → ((a b : ℕ) → x ≡ V.Conc a b → ⊥) → Ok n ≡ numbered (value vs (expression (sheet_of d) i)) → Computed (value vs (expression (sheet_of d) i)) (Ok (Number n)) m
-    computed_number n m hv ht hc e =
-        numeric_by (value vs (expression (sheet_of d) i)) n m (subst Numeric (sym (value_as x refl)) (numeric_as x refl hv ht hc)) e
+    pub computed_number : (a : Result ℕ Cause) (w : Result Outcome Cause) (m : List ℕ) → ((p s n : ℕ) → x ≡ V.Variable p s n → ⊥) → ((p s : ℕ) → x ≡ V.Text p s → ⊥) → ((a b : ℕ) → x ≡ V.Conc a b → ⊥) → a ≡ numbered (value vs (expression (sheet_of d) i)) → MatchResult a (λ n. IsOkAnd w (λ y. y ≡ Number n)) (λ c. w ≡ Err c) → Computed (value vs (expression (sheet_of d) i)) w m
+    computed_number (Ok n) (Ok y) m hv ht hc e h =
+        subst (λ z. Computed (value vs (expression (sheet_of d) i)) (Ok z) m) (sym h) (numeric_by (value vs (expression (sheet_of d) i)) n m (subst Numeric (sym (value_as x refl)) (numeric_as x refl hv ht hc)) e)
+    computed_number (Ok n) (Err c) m hv ht hc e h = absurd h
+    computed_number (Err c) w m hv ht hc e h = subst (λ z. Computed (value vs (expression (sheet_of d) i)) z m) (sym h) (computed_stopped (value vs (expression (sheet_of d) i)) c m e)

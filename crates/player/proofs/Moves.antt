@@ -4,7 +4,7 @@ use Rattle.std.proofs.lemmas.Bool.{cond-true, cond-false, eq-eqb, ne_eqb}
 use Rattle.nodes.specs.Nodes.{Sheet, node_at}
 use Rattle.nodes.specs.declared.view.View.{View}
 use Rattle.deck.specs.Sheets.{sheet_of}
-use Rattle.deck.specs.declared.deck.Deck.{Deck}
+use Rattle.shelf.specs.declared.Shelf.{Ghosts}
 use Rattle.shelf.specs.Value.{Value, number, text, num_of}
 use Rattle.shelf.specs.declared.refusal.Refusal.{Refusal}
 use Rattle.shelf.specs.declared.refusal.Refusal.TheVariants.{NoCapacity}
@@ -18,8 +18,9 @@ use Rattle.semantics.specs.Expressions.{value}
 use Rattle.semantics.specs.Semantics.{State, settled, halted, crowded, done, taken, fronted, beat_at, beat}
 use Rattle.player.specs.declared.course.Course.{Course}
 use Rattle.player.specs.declared.course.Coming.{Coming}
+use Rattle.player.specs.declared.player.Player.{Player}
 use Rattle.player.specs.Stack.{reaches}
-use Rattle.player.specs.Of.{todo_of, behind, Moved, state_with, Comes}
+use Rattle.player.specs.Of.{todo_of, behind, Moved, state_with, state_of, deck_of, Comes, GoesTo, beat_of}
 use Rattle.player.specs.Evaluation.{meant, Computed, numbered, branch_of, store_answer, stored}
 use Rattle.player.proofs.Storing.{answer_ok, answer_err}
 use Rattle.nodes.specs.declared.view.View.TheVariants as V
@@ -69,7 +70,7 @@ module _ (c : Course) (ready : c.status ≡ Ready) (r : Coming) (p : Comes c r) 
   halts : (d : Course) (x : Cause) → todo_of d ≡ todo_of c → d.status ≡ Stopped x r.at → state_with vs d ≡ halted vs (r.front ∷ behind c) x r.at
   halts d x e s = let f = e ∙ p.todo in cc
 
-  moves : (d : Course) (ws : List Value) (ts : List ℕ) → Moved (sheet_of c.deck) d ts → state_with ws d ≡ settled (sheet_of c.deck) ws ts
+  moves : (d : Course) (ws : List Value) (ts : List ℕ) → Moved c.deck d ts → state_with ws d ≡ settled (sheet_of c.deck) ws ts
   moves d ws ts m = let e = m.todo in let f = m.status in cc
 
   stops : (w : View) → r.statement ≡ w → (d : Course) (x : Cause) → value vs (own (stated (sheet_of c.deck) w)) ≡ Err x → todo_of d ≡ todo_of c → d.status ≡ Stopped x r.at → state_with vs d ≡ beat (sheet_of c.deck) R (state_with vs c)
@@ -91,7 +92,7 @@ module _ (c : Course) (ready : c.status ≡ Ready) (r : Coming) (p : Comes c r) 
         with_value (V.Assign a b) k (Ok (meant y l)) (computed_ok _ y l v)
         ∙ ap (λ j. cond (crowded R vs j (meant y l)) (halted vs (r.front ∷ behind c) (NoRoom NoCapacity) r.at) (settled (sheet_of c.deck) (set vs j (meant y l)) (r.rest ∷ behind c))) (sym en)
 
-    pub go_assign : (u : Unit {0}) → Ok u ≡ store_answer R vs n (meant y l) → Moved (sheet_of c.deck) d (r.rest ∷ behind c) → state_with ws d ≡ beat (sheet_of c.deck) R (state_with vs c)
+    pub go_assign : (u : Unit {0}) → Ok u ≡ store_answer R vs n (meant y l) → Moved c.deck d (r.rest ∷ behind c) → state_with ws d ≡ beat (sheet_of c.deck) R (state_with vs c)
     go_assign u q m =
         let f = answer_ok R vs n (meant y l) u q in
         moves d ws (r.rest ∷ behind c) m ∙ ap (λ z. settled (sheet_of c.deck) z (r.rest ∷ behind c)) (ew ∙ cond-false (crowded R vs n (meant y l)) vs (set vs n (meant y l)) f)
@@ -104,7 +105,7 @@ module _ (c : Course) (ready : c.status ≡ Ready) (r : Coming) (p : Comes c r) 
         ∙ halts d (NoRoom NoCapacity) e (s ∙ ap (λ z. Stopped (NoRoom z) r.at) f.1) ∙ sym (assign_is ∙ cond-true _ _ _ f.0)
 
   -- an if goes on with one of its series
-  pub go_if : (t i j : ℕ) → r.statement ≡ V.If t i j → (d : Course) (x b : ℕ) → Ok x ≡ numbered (value vs (expression (sheet_of c.deck) t)) → b ≡ branch_of x i j → Moved (sheet_of c.deck) d (b ∷ r.rest ∷ behind c) → state_with vs d ≡ beat (sheet_of c.deck) R (state_with vs c)
+  pub go_if : (t i j : ℕ) → r.statement ≡ V.If t i j → (d : Course) (x b : ℕ) → Ok x ≡ numbered (value vs (expression (sheet_of c.deck) t)) → b ≡ branch_of x i j → Moved c.deck d (b ∷ r.rest ∷ behind c) → state_with vs d ≡ beat (sheet_of c.deck) R (state_with vs c)
   go_if t i j k d x b v e m =
       let u = numbered_ok _ x v in
       moves d vs (b ∷ r.rest ∷ behind c) m ∙ ap (λ z. settled (sheet_of c.deck) vs (z ∷ r.rest ∷ behind c)) (e ∙ ap (λ z. branch_of z i j) (sym u.2))
@@ -118,10 +119,10 @@ module _ (c : Course) (ready : c.status ≡ Ready) (r : Coming) (p : Comes c r) 
       with_value (V.While t i) k (Ok u.0) u.1
       ∙ ap (λ y. cond (eqb y 0) (settled (sheet_of c.deck) vs (r.rest ∷ behind c)) (settled (sheet_of c.deck) vs (i ∷ r.front ∷ behind c))) u.2
 
-  pub past_while : (t i : ℕ) → r.statement ≡ V.While t i → (d : Course) (x : ℕ) → Ok x ≡ numbered (value vs (expression (sheet_of c.deck) t)) → x ≡ 0 → Moved (sheet_of c.deck) d (r.rest ∷ behind c) → state_with vs d ≡ beat (sheet_of c.deck) R (state_with vs c)
+  pub past_while : (t i : ℕ) → r.statement ≡ V.While t i → (d : Course) (x : ℕ) → Ok x ≡ numbered (value vs (expression (sheet_of c.deck) t)) → x ≡ 0 → Moved c.deck d (r.rest ∷ behind c) → state_with vs d ≡ beat (sheet_of c.deck) R (state_with vs c)
   past_while t i k d x v z m = moves d vs (r.rest ∷ behind c) m ∙ sym (while_is t i x k v ∙ cond-true _ _ _ (eq-eqb x 0 z))
 
-  pub into_while : (t i : ℕ) → r.statement ≡ V.While t i → (d : Course) (x : ℕ) → Ok x ≡ numbered (value vs (expression (sheet_of c.deck) t)) → (x ≡ 0 → ⊥) → Moved (sheet_of c.deck) d (i ∷ r.front ∷ behind c) → state_with vs d ≡ beat (sheet_of c.deck) R (state_with vs c)
+  pub into_while : (t i : ℕ) → r.statement ≡ V.While t i → (d : Course) (x : ℕ) → Ok x ≡ numbered (value vs (expression (sheet_of c.deck) t)) → (x ≡ 0 → ⊥) → Moved c.deck d (i ∷ r.front ∷ behind c) → state_with vs d ≡ beat (sheet_of c.deck) R (state_with vs c)
   into_while t i k d x v z m = moves d vs (i ∷ r.front ∷ behind c) m ∙ sym (while_is t i x k v ∙ cond-false _ _ _ (ne_eqb x 0 z))
 
   -- what is no statement is passed over
@@ -139,11 +140,15 @@ module _ (c : Course) (ready : c.status ≡ Ready) (r : Coming) (p : Comes c r) 
   skips V.Empty e ha hi hw = refl
   skips V.Unknown e ha hi hw = refl
 
-  pub go_skip : ((a b : ℕ) → r.statement ≡ V.Assign a b → ⊥) → ((t i j : ℕ) → r.statement ≡ V.If t i j → ⊥) → ((t i : ℕ) → r.statement ≡ V.While t i → ⊥) → (d : Course) → Moved (sheet_of c.deck) d (r.rest ∷ behind c) → state_with vs d ≡ beat (sheet_of c.deck) R (state_with vs c)
+  pub go_skip : ((a b : ℕ) → r.statement ≡ V.Assign a b → ⊥) → ((t i j : ℕ) → r.statement ≡ V.If t i j → ⊥) → ((t i : ℕ) → r.statement ≡ V.While t i → ⊥) → (d : Course) → Moved c.deck d (r.rest ∷ behind c) → state_with vs d ≡ beat (sheet_of c.deck) R (state_with vs c)
   go_skip ha hi hw d m =
       moves d vs (r.rest ∷ behind c) m
       ∙ sym (beat_as r.statement refl ∙ ap (λ st. done (sheet_of c.deck) R vs r.front (behind c) r.at r.rest st (value vs (own st))) (skips r.statement refl ha hi hw))
 
--- a beat by the deck and capacity as they were
-pub as_begun : (d d₀ : Deck) (R R₀ : ℕ) (t s : State) → d ≡ d₀ → R ≡ R₀ → t ≡ beat (sheet_of d) R s → t ≡ beat (sheet_of d₀) R₀ s
-as_begun d d₀ R R₀ t s e f q = q ∙ ap (λ x. beat (sheet_of x) R s) e ∙ ap (λ y. beat (sheet_of d₀) y s) f
+-- a beat of a player that has gone on from another
+module _ {S : Type 0} (g : Ghosts S) (p q r : Player S) (a : GoesTo g p q (state_of g.values q)) (b : GoesTo g q r (beat_of g q)) where
+  pub beat_begun : state_of g.values r ≡ beat (sheet_of (deck_of p)) (g.capacity p.shelf) (state_of g.values q)
+  beat_begun = b.state ∙ ap (λ x. beat (sheet_of x) (g.capacity q.shelf) (state_of g.values q)) a.deck ∙ ap (λ y. beat (sheet_of (deck_of p)) y (state_of g.values q)) a.capacity
+
+  pub goes_on : (s : State) → state_of g.values r ≡ s → GoesTo g p r s
+  goes_on s e = record { deck = b.deck ∙ a.deck; capacity = b.capacity ∙ a.capacity; slots = b.slots ∙ a.slots; state = e }

@@ -1,10 +1,11 @@
 -- The kinds that a deck declares.
-use Rattle.std.proofs.Common.{◌≡◌, ℕ, suc, ◌+◌, ◌<◌, ◌≤◌, Bool, true, false, cond, ◌||◌, ltb, ◌⊎◌, List, [], ◌∷◌, ◌++◌, map, length, get_or, take, set, Ok, Err, Result, sym, refl, ap, ◌∙◌, ⊎_elim, arith, length-set, take_all, get_or-take}
+use Rattle.std.proofs.Common.{◌≡◌, ℕ, suc, ◌+◌, ◌<◌, ◌≤◌, Bool, true, false, cond, ◌||◌, ltb, ◌⊎◌, List, [], ◌∷◌, ◌++◌, map, length, get_or, take, Ok, Err, Result, sym, refl, ap, ◌∙◌, ⊎_elim, arith}
 use lib.ListN.{length-map}
-use Rattle.std.proofs.lemmas.List.{get_or-map, take_more, take_more_set}
+use Rattle.std.proofs.lemmas.List.{get_or-map, take_more}
 use Rattle.std.proofs.lemmas.Bool.{and_from, ne_eqb, lt-ltb, le-ltb, le-leb, lt-leb, cases_lt}
 use Rattle.shelf.specs.Calls.{after as kept}
-use Rattle.nodes.specs.Nodes.{node_at, kinds, blank}
+use Rattle.nodes.specs.declared.node.Node.{Node}
+use Rattle.nodes.specs.Nodes.{kinds, blank}
 use Rattle.deck.specs.Sheets.{sheet_of}
 use Rattle.deck.specs.declared.deck.Deck.{Deck}
 use Rattle.deck.proofs.OfDeck.{sound, fits}
@@ -25,42 +26,30 @@ all_known (k ∷ ks) h = and_from (known k) (all_kinds ks) (known_since k (h 0 (
 pub few_variables : (d : Deck) → (1 ≤ (sheet_of d).variables) × ((sheet_of d).variables ≤ 64)
 few_variables d = ((fits d).one, (fits d).v_few)
 
-pub kind_here : (d : Deck) (i : ℕ) → i < (sheet_of d).variables → (node_at (sheet_of d).nodes i).c ≡ get_or (kinds (sheet_of d)) i 0
+kind_here : (d : Deck) (i : ℕ) → i < length (kinds (sheet_of d)) → (get_or (take (sheet_of d).variables (sheet_of d).nodes) i blank).c ≡ get_or (kinds (sheet_of d)) i 0
 kind_here d i h =
-    let s = (sound d).some in
-    let k = (sound d).declared in
     let l = length-map (take (sheet_of d).variables (sheet_of d).nodes) (λ x. x.c) in
-    ap (λ x. x.c) (sym (get_or-take (sheet_of d).variables (sheet_of d).nodes i blank h))
-    ∙ sym (get_or-map (λ x. x.c) (take (sheet_of d).variables (sheet_of d).nodes) i blank 0 (omega arith))
+    sym (get_or-map (λ x. x.c) (take (sheet_of d).variables (sheet_of d).nodes) i blank 0 (omega arith))
 
-pub kind_small : (d : Deck) (i : ℕ) → i < (sheet_of d).variables → (node_at (sheet_of d).nodes i).c ≤ 2
-kind_small d i h =
-    let k = (sound d).declared in
-    let e = kind_here d i h in
-    ⊎_elim (λ q. omega arith) (λ q. omega arith) ((sound d).known i (omega arith))
+-- the kinds in turn, as a loop over the nodes that declare finds them
+module _ (d : Deck) (xs : List Node) (n i : ℕ) (ex : xs ≡ (sheet_of d).nodes) (en : n ≡ (sheet_of d).variables) (h : i < length (take n xs)) where
+  pub within : i < length (kinds (sheet_of d))
+  within =
+      let l = length-map (take (sheet_of d).variables (sheet_of d).nodes) (λ x. x.c) in
+      let e = ap (λ m. length (take m xs)) en ∙ ap (λ l. length (take (sheet_of d).variables l)) ex in
+      omega arith
 
-pub record Declaring (d : Deck) (ks : List ℕ) (i : ℕ) : Type 0 where
-  pub few : i ≤ (sheet_of d).variables
-  pub wide : length ks ≡ 64
-  pub same : take i ks ≡ take i (kinds (sheet_of d))
+  pub kind_next : (get_or (take n xs) i blank).c ≡ get_or (kinds (sheet_of d)) i 0
+  kind_next = ap (λ m. (get_or (take m xs) i blank).c) en ∙ ap (λ l. (get_or (take (sheet_of d).variables l) i blank).c) ex ∙ kind_here d i within
 
-pub declaring_more : (d : Deck) (ks : List ℕ) (i c : ℕ) → Declaring d ks i → i < (sheet_of d).variables → c ≡ (node_at (sheet_of d).nodes i).c → Declaring d (set ks i c) (i + 1)
-declaring_more d ks i c p h q =
-    let m = (few_variables d).1 in let w = p.wide in let k = (sound d).declared in
-    record {
-      few = omega arith;
-      wide = length-set ks i c ∙ p.wide;
-      same =
-          take_more_set ks i c (omega arith) ∙ ap (λ l. l ++ c ∷ []) p.same
-          ∙ ap (λ x. take i (kinds (sheet_of d)) ++ x ∷ []) (q ∙ kind_here d i h) ∙ sym (take_more (kinds (sheet_of d)) i 0 (omega arith));
-    }
+  pub kind_small : (get_or (take n xs) i blank).c ≤ 2
+  kind_small =
+      let e = kind_next in
+      ⊎_elim (λ q. omega arith) (λ q. omega arith) ((sound d).known i within)
 
-pub declared_all : (d : Deck) (ks : List ℕ) (i : ℕ) → Declaring d ks i → (sheet_of d).variables ≤ i → take (sheet_of d).variables ks ≡ kinds (sheet_of d)
-declared_all d ks i p h =
-    let k = (sound d).declared in
-    let f = p.few in
-    let e : (sheet_of d).variables ≡ i = omega arith in
-    ap (λ n. take n ks) e ∙ p.same ∙ take_all i (kinds (sheet_of d)) (omega arith)
+  pub kinds_more : (ks ms : List ℕ) (k : ℕ) → ks ≡ take i (kinds (sheet_of d)) → k ≡ (get_or (take n xs) i blank).c → ms ≡ ks ++ k ∷ [] → ms ≡ take (i + 1) (kinds (sheet_of d))
+  kinds_more ks ms k p q e =
+      e ∙ ap (λ l. l ++ k ∷ []) p ∙ ap (λ x. take i (kinds (sheet_of d)) ++ x ∷ []) (q ∙ kind_next) ∙ sym (take_more (kinds (sheet_of d)) i 0 within)
 
 opens : (d : Deck) (S : ℕ) → open_told S (kinds (sheet_of d)) ≡ open_answer S (sheet_of d)
 opens d S =
@@ -76,8 +65,8 @@ kept_as : (b : Bool) (new old : List Value) → kept (cond {A = Result (Unit {0}
 kept_as true new old = refl
 kept_as false new old = refl
 
-pub opens_with : (d : Deck) (S : ℕ) (ks : List ℕ) (vs : List Value) → ks ≡ kinds (sheet_of d) → (open_told S ks ≡ open_answer S (sheet_of d)) × (open_list S ks vs ≡ opened S (sheet_of d) vs)
-opens_with d S ks vs e = (
-  ap (open_told S) e ∙ opens d S,
-  ap (λ l. open_list S l vs) e ∙ ap (λ r. kept r (map fresh (kinds (sheet_of d))) vs) (opens d S) ∙ kept_as (enough_slots S (sheet_of d)) (map fresh (kinds (sheet_of d))) vs,
-)
+pub opens_told : (d : Deck) (S : ℕ) (ks : List ℕ) → ks ≡ kinds (sheet_of d) → open_told S ks ≡ open_answer S (sheet_of d)
+opens_told d S ks e = ap (open_told S) e ∙ opens d S
+
+pub opens_list : (d : Deck) (S : ℕ) (ks : List ℕ) (vs : List Value) → ks ≡ kinds (sheet_of d) → open_list S ks vs ≡ opened S (sheet_of d) vs
+opens_list d S ks vs e = ap (λ l. open_list S l vs) e ∙ ap (λ r. kept r (map fresh (kinds (sheet_of d))) vs) (opens d S) ∙ kept_as (enough_slots S (sheet_of d)) (map fresh (kinds (sheet_of d))) vs

@@ -1,6 +1,7 @@
 -- A loop that makes one call after the other.
-use Rattle.std.proofs.Common.{◌≡◌, ℕ, ◌+◌, ◌<◌, ◌≤◌, Bool, true, false, ◌⊎◌, List, [], ◌∷◌, ◌++◌, map, length, get_or, take, drop, set, sym, refl, ap, ◌∙◌, subst, ⊎_elim, arith, length-append, length-set, length-take, take_all, get_or-take, drop-drop, drop-set-lt}
+use Rattle.std.proofs.Common.{◌≡◌, ℕ, Some, None, slice_get, ◌+◌, ◌<◌, ◌≤◌, Bool, true, false, ◌⊎◌, List, [], ◌∷◌, ◌++◌, map, length, get_or, take, drop, set, sym, refl, ap, ◌∙◌, subst, ⊎_elim, arith, length-append, length-set, length-take, take_all, get_or-take, drop-drop, drop-set-lt}
 use Rattle.std.proofs.lemmas.List.{take_more, take_more_set, drop_all}
+use Rattle.std.proofs.lemmas.Option.{slice_get_within, get_or_from_slice_get, slice_get_cases}
 use Rattle.std.proofs.lemmas.Bool.{le-leb, lt-leb, cases_lt}
 use Rattle.nodes.specs.Nodes.{Sheet, kinds}
 use Rattle.deck.specs.Sheets.{sheet_of}
@@ -21,7 +22,10 @@ use Rattle.semantics.specs.Law.{Held, moment, reports, Lawful}
 use Rattle.semantics.proofs.Runs.{stopped, run_still, beats_still}
 use Rattle.semantics.proofs.Reaches.{converse}
 use Rattle.semantics.proofs.Lawfulness.{law}
+use Rattle.shelf.specs.declared.Shelf.{Ghosts}
+use Rattle.player.specs.declared.player.Player.{Player}
 use Rattle.player.specs.Opening.{enough_slots}
+use Rattle.player.specs.Of.{state_of, deck_of, enough, GoesTo, after_call, answer_to}
 use Rattle.player.specs.Performed.{Performed, unplayed, Unplayed}
 
 module _ (b : Bool) (sh : Sheet) (R : ℕ) where
@@ -53,13 +57,14 @@ module _ (b : Bool) (sh : Sheet) (R : ℕ) where
   performing_none cs s given = record { few = omega arith; fits = omega arith; long = refl; state = refl; says = refl; beyond = refl }
 
   pub performing_more :
-      (cs : List Call) (i : ℕ) (s₀ s t : State) (given₀ given next : List Answer) (d : Call) (a : Answer) →
-      Performing cs i s₀ s given₀ given → i < length cs → i < length given → t ≡ after b sh R (get_or cs i d) s → a ≡ answer b sh R (get_or cs i d) s → next ≡ set given i a →
-      Performing cs (i + 1) s₀ t given₀ next
-  performing_more cs i s₀ s t given₀ given next d a p h k e q w =
-      subst (Performing cs (i + 1) s₀ t given₀) (sym w)
-      (let m = take_more cs i d h in
+      (cs : List Call) (i : ℕ) (s₀ s t : State) (given₀ given : List Answer) (d : Call) (a : Answer) →
+      Performing cs i s₀ s given₀ given → i < length cs → d ≡ get_or cs i d → i < length given → t ≡ after b sh R d s → a ≡ answer b sh R d s →
+      Performing cs (i + 1) s₀ t given₀ (set given i a)
+  performing_more cs i s₀ s t given₀ given d a p h at k e' q' =
+      let m = take_more cs i d h in
       let l = p.long in
+      let e : t ≡ after b sh R (get_or cs i d) s = e' ∙ ap (λ x. after b sh R x s) at in
+      let q : a ≡ answer b sh R (get_or cs i d) s = q' ∙ ap (λ x. answer b sh R x s) at in
       record {
         few = omega arith;
         fits = omega arith;
@@ -70,7 +75,7 @@ module _ (b : Bool) (sh : Sheet) (R : ℕ) where
             ∙ ap (λ x. all_answers b sh R (take i cs) s₀ ++ x ∷ []) (q ∙ ap (answer b sh R (get_or cs i d)) p.state)
             ∙ sym (ap (λ xs. all_answers b sh R xs s₀) m ∙ answers_push (take i cs) (get_or cs i d) s₀);
         beyond = drop-set-lt (i + 1) given i a (omega arith) ∙ sym (drop-drop 1 i given) ∙ ap (drop 1) p.beyond ∙ drop-drop 1 i given₀;
-      })
+      }
 
   -- the calls that had a place for their answer were all made
   pub record Made (cs : List Call) (s₀ s : State) (given₀ given : List Answer) : Type 0 where
@@ -102,6 +107,13 @@ module _ (b : Bool) (sh : Sheet) (R : ℕ) where
             says = take_all (length cs) given (omega arith) ∙ sym (take_all i given h) ∙ p.says ∙ ap (λ xs. all_answers b sh R xs s₀) q;
             beyond = drop_all (length cs) given (omega arith) ∙ sym (drop_all (length cs) given₀ (omega arith));
           }
+
+-- a call by its place, or none
+pub got : (cs : List Call) (i : ℕ) (c : Call) → Some c ≡ slice_get cs i → (i < length cs) × (c ≡ get_or cs i c)
+got cs i c e = (slice_get_within cs i c (sym e), sym (get_or_from_slice_get cs i c c (sym e)))
+
+pub got_none : (cs : List Call) (i : ℕ) → None ≡ slice_get cs i → length cs ≤ i
+got_none cs i e = ⊎_elim (λ p. let q = p.2 in let z : ◌≡◌ {A = ℕ} 0 1 = cc in absurd (omega arith)) (λ p. p.0) (slice_get_cases cs i).1
 
 -- with too few slots nothing happens
 module _ (sh : Sheet) (R : ℕ) (vs : List Value) where
@@ -195,13 +207,22 @@ module _
         values = v ∙ ap (λ b. (all_after b (sheet_of d) R (take (length given₀) cs) (started b (sheet_of d) vs₀)).values) e ∙ ap (λ s. s.values) (lacking_after (sheet_of d) R vs₀ (take (length given₀) cs));
       }
 
--- one call, by the deck, capacity and slots as they were
-module _ (d d₀ : Deck) (R R₀ S S₀ : ℕ) (e : d ≡ d₀) (f : R ≡ R₀) (h : S ≡ S₀) (c : Call) (s : State) where
-  pub after_begun : (t : State) → t ≡ after (enough_slots S (sheet_of d)) (sheet_of d) R c s → t ≡ after (enough_slots S₀ (sheet_of d₀)) (sheet_of d₀) R₀ c s
-  after_begun t q = q ∙ ap (λ x. after (enough_slots S (sheet_of x)) (sheet_of x) R c s) e ∙ ap (λ y. after (enough_slots S (sheet_of d₀)) (sheet_of d₀) y c s) f ∙ ap (λ z. after (enough_slots z (sheet_of d₀)) (sheet_of d₀) R₀ c s) h
+-- a call of a player that has gone on from another
+module _ {S : Type 0} (g : Ghosts S) (p q r : Player S) (c : Call) (a : GoesTo g p q (state_of g.values q)) (b : GoesTo g q r (after_call g c q)) where
+  as_begun : {A : Type 0} (f : Bool → Sheet → ℕ → A) → f (enough g (deck_of q) q.shelf) (sheet_of (deck_of q)) (g.capacity q.shelf) ≡ f (enough g (deck_of p) p.shelf) (sheet_of (deck_of p)) (g.capacity p.shelf)
+  as_begun f =
+      ap (λ x. f (enough_slots (g.slots q.shelf) (sheet_of x)) (sheet_of x) (g.capacity q.shelf)) a.deck
+      ∙ ap (λ y. f (enough_slots (g.slots q.shelf) (sheet_of (deck_of p))) (sheet_of (deck_of p)) y) a.capacity
+      ∙ ap (λ z. f (enough_slots z (sheet_of (deck_of p))) (sheet_of (deck_of p)) (g.capacity p.shelf)) a.slots
 
-  pub answer_begun : (a : Answer) → a ≡ answer (enough_slots S (sheet_of d)) (sheet_of d) R c s → a ≡ answer (enough_slots S₀ (sheet_of d₀)) (sheet_of d₀) R₀ c s
-  answer_begun a q = q ∙ ap (λ x. answer (enough_slots S (sheet_of x)) (sheet_of x) R c s) e ∙ ap (λ y. answer (enough_slots S (sheet_of d₀)) (sheet_of d₀) y c s) f ∙ ap (λ z. answer (enough_slots z (sheet_of d₀)) (sheet_of d₀) R₀ c s) h
+  pub after_begun : state_of g.values r ≡ after (enough g (deck_of p) p.shelf) (sheet_of (deck_of p)) (g.capacity p.shelf) c (state_of g.values q)
+  after_begun = b.state ∙ as_begun (λ x y z. after x y z c (state_of g.values q))
+
+  pub answer_begun : (x : Answer) → x ≡ answer_to g c q → x ≡ answer (enough g (deck_of p) p.shelf) (sheet_of (deck_of p)) (g.capacity p.shelf) c (state_of g.values q)
+  answer_begun x e = e ∙ as_begun (λ u y z. answer u y z c (state_of g.values q))
+
+  pub called_on : GoesTo g p r (state_of g.values r)
+  called_on = record { deck = b.deck ∙ a.deck; capacity = b.capacity ∙ a.capacity; slots = b.slots ∙ a.slots; state = refl }
 
 -- the whole, by the deck, capacity and slots that were handed over
 module _ (d d₀ : Deck) (R R₀ S S₀ : ℕ) (e : d ≡ d₀) (f : R ≡ R₀) (h : S ≡ S₀) (cs : List Call) (s₀ s : State) (given₀ given : List Answer) (vs₀ : List Value) where

@@ -5,7 +5,7 @@ use Rattle.shelf.specs.Value.{Value, number, text, num_of, bytes_of}
 use Rattle.shelf.specs.declared.refusal.Refusal.{Refusal}
 use Rattle.shelf.specs.declared.refusal.Refusal.TheVariants.{NoCapacity}
 use Rattle.semantics.specs.declared.status.Cause.{Cause}
-use Rattle.semantics.specs.declared.status.Cause.TheVariants.{TextTooLong}
+use Rattle.semantics.specs.declared.status.Cause.TheVariants.{SumTooLarge, TextTooLong}
 use Rattle.semantics.specs.declared.call.Outcome.{Outcome}
 use Rattle.semantics.specs.declared.call.Outcome.TheVariants.{Number, Text}
 use Rattle.semantics.specs.Semantics.{crowded}
@@ -27,24 +27,13 @@ abbrev pub numbered : Result Value Cause → Result ℕ Cause
 numbered (Ok u) = Ok (num_of u)
 numbered (Err c) = Err c
 
--- more than every number: what a sum comes to that passes the largest
-abbrev pub beyond : ℕ
-beyond = 4294967296
-
-abbrev pub amount_of : Result ℕ Cause → ℕ
-amount_of (Ok n) = n
-amount_of (Err c) = beyond
-
-abbrev pub sum_of : ℕ → ℕ → ℕ
-sum_of x y = cond (nat_lt largest (x + y)) beyond (x + y)
+-- a sum, if it is a number
+abbrev pub sum_of : ℕ → ℕ → Result ℕ Cause
+sum_of x y = cond (nat_lt largest (x + y)) (Err SumTooLarge) (Ok (x + y))
 
 -- where a text that begins at the place at ends, if the line is long enough
 abbrev pub ending : ℕ → ℕ → Option ℕ
 ending at n = cond (nat_le (at + n) longest) (Some (at + n)) None
-
--- the same from where it ends, or from any place past the line
-abbrev pub ends_of : ℕ → Option ℕ
-ends_of r = cond (nat_le r longest) (Some r) None
 
 pub record Appended (before after : List ℕ) (at : ℕ) (t : List ℕ) (r : Option ℕ) : Type 0 where
   pub says : r ≡ ending at (length t)

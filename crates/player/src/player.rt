@@ -8,5 +8,6 @@ pub mod calls;
 pub struct Player<S: Shelf> {
     pub(crate) course: Course,
     pub(crate) shelf: S,
+    // Stays: an array, since a shelf fills the whole line of its caller.
     pub(crate) line: [u8; LONGEST],
 }

@@ -1,6 +1,7 @@
 // Whole sheets, played on both makes of shelf.
 #![tactic(auto)]
 
-pub mod sheets;
+#[cfg(test)]
+mod sheets;
 #[cfg(test)]
 mod tests;

@@ -1,76 +1,103 @@
 // The sheets that the tests play.
-use nodes::node::{
-    ASSIGN, CONC, DECLARATION, EMPTY, IF, INTEGER, NUMBER, Node, PLUS, SERIES, STRING, TEXT,
-    VARIABLE, WHILE,
-};
+use nodes::kind::Kind;
+use nodes::node::Node;
+use nodes::view::View;
 
-fn node(kind: u8, a: u16, b: u16, c: u16) -> Node {
-    Node { kind, a, b, c }
+// A declaration and a variable, of one letter each.
+fn declaration(place: u16, kind: Kind) -> View {
+    View::Declaration {
+        place,
+        size: 1,
+        kind: kind.into(),
+    }
+}
+
+fn variable(place: u16, number: u16) -> View {
+    View::Variable {
+        place,
+        size: 1,
+        number,
+    }
+}
+
+fn assign(target: u16, value: u16) -> View {
+    View::Assign { target, value }
+}
+
+fn series(statement: u16, rest: u16) -> View {
+    View::Series { statement, rest }
 }
 
 // a := 4294967295; while a do a := a + 1 od
-pub fn climbing() -> [Node; 16] {
+pub(crate) fn climbing() -> [Node; 16] {
     [
-        node(DECLARATION, 0, 1, INTEGER),
-        node(VARIABLE, 0, 1, 0),
-        node(NUMBER, 65535, 65535, 0),
-        node(ASSIGN, 1, 2, 0),
-        node(VARIABLE, 0, 1, 0),
-        node(VARIABLE, 0, 1, 0),
-        node(VARIABLE, 0, 1, 0),
-        node(NUMBER, 1, 0, 0),
-        node(PLUS, 6, 7, 0),
-        node(ASSIGN, 5, 8, 0),
-        node(EMPTY, 0, 0, 0),
-        node(SERIES, 9, 10, 0),
-        node(WHILE, 4, 11, 0),
-        node(EMPTY, 0, 0, 0),
-        node(SERIES, 12, 13, 0),
-        node(SERIES, 3, 14, 0),
+        declaration(0, Kind::Integer),
+        variable(0, 0),
+        View::Number { value: 4294967295 },
+        assign(1, 2),
+        variable(0, 0),
+        variable(0, 0),
+        variable(0, 0),
+        View::Number { value: 1 },
+        View::Plus { left: 6, right: 7 },
+        assign(5, 8),
+        View::Empty,
+        series(9, 10),
+        View::While { test: 4, body: 11 },
+        View::Empty,
+        series(12, 13),
+        series(3, 14),
     ]
+    .map(Node::from)
 }
 
 // t := "rimbayoket"; while 1 do t := t || t od, where n is declared too
-pub fn doubling() -> [Node; 17] {
+pub(crate) fn doubling() -> [Node; 17] {
     [
-        node(DECLARATION, 0, 1, INTEGER),
-        node(DECLARATION, 1, 1, STRING),
-        node(VARIABLE, 1, 1, 1),
-        node(TEXT, 2, 10, 0),
-        node(ASSIGN, 2, 3, 0),
-        node(NUMBER, 1, 0, 0),
-        node(VARIABLE, 1, 1, 1),
-        node(VARIABLE, 1, 1, 1),
-        node(VARIABLE, 1, 1, 1),
-        node(CONC, 7, 8, 0),
-        node(ASSIGN, 6, 9, 0),
-        node(EMPTY, 0, 0, 0),
-        node(SERIES, 10, 11, 0),
-        node(WHILE, 5, 12, 0),
-        node(EMPTY, 0, 0, 0),
-        node(SERIES, 13, 14, 0),
-        node(SERIES, 4, 15, 0),
+        declaration(0, Kind::Integer),
+        declaration(1, Kind::String),
+        variable(1, 1),
+        View::Text { place: 2, size: 10 },
+        assign(2, 3),
+        View::Number { value: 1 },
+        variable(1, 1),
+        variable(1, 1),
+        variable(1, 1),
+        View::Conc { left: 7, right: 8 },
+        assign(6, 9),
+        View::Empty,
+        series(10, 11),
+        View::While { test: 5, body: 12 },
+        View::Empty,
+        series(13, 14),
+        series(4, 15),
     ]
+    .map(Node::from)
 }
 
 // a := 2; if a then b := a else fi, where a and b are integers: 3 beats
-pub fn branching() -> [Node; 16] {
+pub(crate) fn branching() -> [Node; 16] {
     [
-        node(DECLARATION, 0, 1, INTEGER),
-        node(DECLARATION, 1, 1, INTEGER),
-        node(VARIABLE, 0, 1, 0),
-        node(NUMBER, 2, 0, 0),
-        node(ASSIGN, 2, 3, 0),
-        node(VARIABLE, 0, 1, 0),
-        node(VARIABLE, 1, 1, 1),
-        node(VARIABLE, 0, 1, 0),
-        node(ASSIGN, 6, 7, 0),
-        node(EMPTY, 0, 0, 0),
-        node(SERIES, 8, 9, 0),
-        node(EMPTY, 0, 0, 0),
-        node(IF, 5, 10, 11),
-        node(EMPTY, 0, 0, 0),
-        node(SERIES, 12, 13, 0),
-        node(SERIES, 4, 14, 0),
+        declaration(0, Kind::Integer),
+        declaration(1, Kind::Integer),
+        variable(0, 0),
+        View::Number { value: 2 },
+        assign(2, 3),
+        variable(0, 0),
+        variable(1, 1),
+        variable(0, 0),
+        assign(6, 7),
+        View::Empty,
+        series(8, 9),
+        View::Empty,
+        View::If {
+            test: 5,
+            then: 10,
+            otherwise: 11,
+        },
+        View::Empty,
+        series(12, 13),
+        series(4, 14),
     ]
+    .map(Node::from)
 }

@@ -11,114 +11,68 @@ use shelf::Shelf;
 use std::process::Abort;
 use std::test::Fail;
 
-const READY: u8 = 0;
-
-const ENDED: u8 = 1;
-
-// The number of a stop's cause, or `READY` or `ENDED`.
-fn cause_of(status: Status) -> u8 {
-    match status {
-        Status::Ready => READY,
-        Status::Ended => ENDED,
-        Status::Stopped { cause, node: _ } => cause.number(),
-    }
+// How a player stands; a stop by its cause's number and its node.
+#[derive(Clone, Copy, PartialEq, Eq, Debug)]
+enum Stand {
+    Ready,
+    Ended,
+    Stopped(u8, u16),
 }
 
-fn node_of(status: Status) -> u16 {
-    match status {
-        Status::Stopped { cause: _, node } => node,
-        _ => 0,
-    }
-}
-
-fn played(rt: &impl Abort, answer: Answer, beats: u16, cause: u8, node: u16) -> Result<(), Fail> {
-    match answer {
-        Answer::Played(progress) => {
-            assert_eq!(rt; progress.beats, beats);
-            assert_eq!(rt; cause_of(progress.status), cause);
-            assert_eq!(rt; node_of(progress.status), node);
-            Ok(())
+impl From<Status> for Stand {
+    fn from(status: Status) -> Stand {
+        match status {
+            Status::Ready => Stand::Ready,
+            Status::Ended => Stand::Ended,
+            Status::Stopped { cause, node } => Stand::Stopped(cause.number(), node),
         }
-        _ => {
-            assert!(rt; false);
-            Ok(())
-        },
     }
 }
 
-fn rewound(rt: &impl Abort, answer: Answer, cause: u8) -> Result<(), Fail> {
-    match answer {
-        Answer::Rewound(status) => {
-            assert_eq!(rt; cause_of(status), cause);
-            Ok(())
-        },
-        _ => {
-            assert!(rt; false);
-            Ok(())
-        },
-    }
+fn played(rt: &impl Abort, answer: Answer, beats: u16, stand: Stand) -> Result<(), Fail> {
+    let Answer::Played(progress) = answer else {
+        panic!(rt; "this is no answer to a play");
+    };
+    assert_eq!(rt; progress.beats, beats);
+    assert_eq!(rt; Stand::from(progress.status), stand);
+    Ok(())
+}
+
+fn rewound(rt: &impl Abort, answer: Answer, stand: Stand) -> Result<(), Fail> {
+    let Answer::Rewound(status) = answer else {
+        panic!(rt; "this is no answer to a rewind");
+    };
+    assert_eq!(rt; Stand::from(status), stand);
+    Ok(())
 }
 
 // A number leaves the line of sevens.
 fn shows_number(rt: &impl Abort, answer: Answer, number: u32) -> Result<(), Fail> {
-    match answer {
-        Answer::Looked { seen, line } => match seen {
-            Ok(Outcome::Number(n)) => {
-                assert_eq!(rt; n, number);
-                assert!(rt; line[0] == 7 && line[79] == 7);
-                Ok(())
-            }
-            _ => {
-                assert!(rt; false);
-                Ok(())
-            },
-        },
-        _ => {
-            assert!(rt; false);
-            Ok(())
-        },
-    }
+    let Answer::Looked { seen, line } = answer else {
+        panic!(rt; "this is no answer to a look");
+    };
+    assert_eq!(rt; seen, Ok(Outcome::Number(number)));
+    assert!(rt; line[0] == 7 && line[79] == 7);
+    Ok(())
 }
 
 // A text fills the line, with zeros behind it, so that the line ends in this byte.
 fn shows_text(rt: &impl Abort, answer: Answer, size: usize, last: u8) -> Result<(), Fail> {
-    match answer {
-        Answer::Looked { seen, line } => match seen {
-            Ok(Outcome::Text(n)) => {
-                assert_eq!(rt; n, size);
-                assert!(rt; line[0] == b'r' && line[9] == b't' && line[79] == last);
-                Ok(())
-            }
-            _ => {
-                assert!(rt; false);
-                Ok(())
-            },
-        },
-        _ => {
-            assert!(rt; false);
-            Ok(())
-        },
-    }
+    let Answer::Looked { seen, line } = answer else {
+        panic!(rt; "this is no answer to a look");
+    };
+    assert_eq!(rt; seen, Ok(Outcome::Text(size)));
+    assert!(rt; line[0] == b'r' && line[9] == b't' && line[79] == last);
+    Ok(())
 }
 
 fn refused(rt: &impl Abort, answer: Answer, number: u8) -> Result<(), Fail> {
-    match answer {
-        Answer::Looked { seen, line } => match seen {
-            Err(why) => {
-                assert_eq!(rt; why.number(), number);
-                assert!(rt; line[0] == 7);
-                Ok(())
-            }
-            Ok(_) => {
-                assert!(rt; false);
-                Ok(())
-            },
-        },
-        _ => {
-            assert!(rt; false);
-            Ok(())
-        },
-    }
+    let Answer::Looked { seen, line } = answer else {
+        panic!(rt; "this is no answer to a look");
+    };
+    assert_eq!(rt; seen.map_err(u8::from), Err(number));
+    assert!(rt; line[0] == 7);
+    Ok(())
 }
 
 fn look(of: usize) -> Call {
@@ -154,12 +108,12 @@ fn climb<S: Shelf>(shelf: S) -> (S, [Answer; 7]) {
 }
 
 fn climbed(rt: &impl Abort, answers: [Answer; 7]) -> Result<(), Fail> {
-    played(rt, answers[0], 1, READY, 0)?;
-    played(rt, answers[1], 1, 70, 9)?;
-    played(rt, answers[2], 0, 70, 9)?;
+    played(rt, answers[0], 1, Stand::Ready)?;
+    played(rt, answers[1], 1, Stand::Stopped(70, 9))?;
+    played(rt, answers[2], 0, Stand::Stopped(70, 9))?;
     shows_number(rt, answers[3], 4294967295)?;
     refused(rt, answers[4], 62)?;
-    rewound(rt, answers[5], READY)?;
+    rewound(rt, answers[5], Stand::Ready)?;
     shows_number(rt, answers[6], 0)
 }
 
@@ -182,16 +136,8 @@ fn branched(
 ) -> Result<(), Fail> {
     assert_eq!(rt; first, 2);
     assert_eq!(rt; second, 1);
-    match seen {
-        Ok(Outcome::Number(n)) => {
-            assert_eq!(rt; n, 2);
-            Ok(())
-        },
-        _ => {
-            assert!(rt; false);
-            Ok(())
-        },
-    }
+    assert_eq!(rt; seen, Ok(Outcome::Number(2)));
+    Ok(())
 }
 
 // A text that grows until something stops it.
@@ -221,35 +167,34 @@ fn doubled(
     size: usize,
     last: u8,
 ) -> Result<(), Fail> {
-    played(rt, answers[0], 0, READY, 0)?;
-    played(rt, answers[1], beats, cause, 10)?;
+    played(rt, answers[0], 0, Stand::Ready)?;
+    played(rt, answers[1], beats, Stand::Stopped(cause, 10))?;
     shows_text(rt, answers[2], size, last)?;
-    rewound(rt, answers[3], READY)?;
-    played(rt, answers[4], 1, READY, 0)
+    rewound(rt, answers[3], Stand::Ready)?;
+    played(rt, answers[4], 1, Stand::Ready)
+}
+
+// Three sheets on one shelf.
+fn plays<S: Shelf + Drop>(rt: &impl Abort, shelf: S) -> Result<S, Fail> {
+    let (shelf, answers) = climb(shelf);
+    climbed(rt, answers)?;
+    let (shelf, first, second, seen) = branch(shelf);
+    branched(rt, first, second, seen)?;
+    let (shelf, answers) = double(shelf);
+    doubled(rt, answers, 8, 71, 80, b't')?;
+    Ok(shelf)
 }
 
 #[test]
 fn plays_on_rows(rt: HostRuntime) -> Result<(), Fail> {
-    let rows = Rows::new(vec![in rt.alloc(); 9; 160]?);
-    let (rows, answers) = climb(rows);
-    climbed(&rt, answers)?;
-    let (rows, first, second, seen) = branch(rows);
-    branched(&rt, first, second, seen)?;
-    let (rows, answers) = double(rows);
-    doubled(&rt, answers, 8, 71, 80, b't')?;
+    let rows = plays(&rt, Rows::new(vec![in rt.alloc(); 9; 160]?))?;
     assert_eq!(rt; rows.into_memory().len(), 160);
     Ok(())
 }
 
 #[test]
 fn plays_on_packed(rt: HostRuntime) -> Result<(), Fail> {
-    let packed = Packed::new(vec![in rt.alloc(); 9; 160]?);
-    let (packed, answers) = climb(packed);
-    climbed(&rt, answers)?;
-    let (packed, first, second, seen) = branch(packed);
-    branched(&rt, first, second, seen)?;
-    let (packed, answers) = double(packed);
-    doubled(&rt, answers, 8, 71, 80, b't')?;
+    let packed = plays(&rt, Packed::new(vec![in rt.alloc(); 9; 160]?))?;
     assert_eq!(rt; packed.into_memory().len(), 160);
     Ok(())
 }
@@ -274,9 +219,9 @@ fn stops_for_want_of_slots(rt: HostRuntime) -> Result<(), Fail> {
         &calls,
         &mut answers,
     );
-    played(&rt, answers[0], 0, 73, 0)?;
+    played(&rt, answers[0], 0, Stand::Stopped(73, 0))?;
     refused(&rt, answers[1], 73)?;
-    rewound(&rt, answers[2], 73)?;
+    rewound(&rt, answers[2], Stand::Stopped(73, 0))?;
     assert_eq!(rt; rows.into_memory().len(), 80);
     Ok(())
 }

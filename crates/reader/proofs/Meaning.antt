@@ -10,8 +10,8 @@ use Rattle.grammar.proofs.Sound.{sound}
 use Rattle.grammar.proofs.Complete.{complete}
 use Rattle.grammar.proofs.Meaning.{faults, exact}
 use Rattle.reader.specs.declared.read.Sizes.{Sizes}
-use Rattle.reader.specs.Text.{words_of, last_of, parsed}
-use Rattle.reader.specs.Layout.{size}
+use Rattle.cursor.specs.Text.{words_of, last_of, parsed}
+use Rattle.cursor.specs.Layout.{size}
 use Rattle.reader.specs.Read.{judged, sheet_in, places, counted, filled}
 use Rattle.reader.specs.Laws.{too_long, by_words, too_many, StandsFor, Meant, Complete, Exact}
 use Rattle.reader.proofs.Whole.{short}

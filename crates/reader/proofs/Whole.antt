@@ -1,6 +1,7 @@
 -- A whole sheet.
-use Rattle.std.proofs.Common.{◌≡◌, ℕ, zero, suc, ◌+◌, ◌-◌, ◌<◌, ◌≤◌, min, ltb, List, [], ◌∷◌, ◌++◌, length, take, set, replicate, Ok, Err, Result, sym, refl, ap, ◌∙◌, subst, append_assoc, arith, length-append, take_at}
+use Rattle.std.proofs.Common.{◌≡◌, ℕ, zero, suc, ◌+◌, ◌-◌, ◌<◌, ◌≤◌, ltb, List, [], ◌∷◌, ◌++◌, length, set, replicate, Ok, Err, Result, sym, refl, ap, ◌∙◌, subst, append_assoc, arith, length-append}
 use lib.Seq.{set_at}
+use Rattle.std.proofs.lemmas.List.{take_all}
 use Rattle.std.proofs.lemmas.Bool.{cond-true, cond-false, le-ltb, le-leb, lt-leb}
 use Rattle.words.specs.declared.word.Fault.{Fault}
 use Rattle.words.specs.declared.word.Refusal.TheVariants as R
@@ -12,31 +13,35 @@ use Rattle.nodes.specs.Limits.{most_letters, most_nodes}
 use Rattle.nodes.specs.Nodes.{blank}
 use Rattle.grammar.specs.Grammar.{Tree, fixed, name, number, text, sheet}
 use Rattle.spelling.specs.declared.Entry.{Entry}
-use Rattle.grammar.specs.Machine.{declared, over, fault}
-use Rattle.grammar.specs.Scan.{Found}
-use Rattle.reader.specs.declared.names.Declared.{Declared}
-use Rattle.reader.specs.declared.step.Ahead.{Ahead}
-use Rattle.reader.specs.Parts.{Listed, ListedAs}
+use Rattle.grammar.specs.Machine.{empty, over, fault}
+use Rattle.grammar.specs.Scan.{wrong}
+use Rattle.nodes.specs.declared.binding.Binding.{Binding}
+use Rattle.cursor.specs.declared.cursor.Cursor.{Cursor}
+use Rattle.parser.specs.Parts.{Listed}
 use Rattle.reader.specs.declared.read.Sizes.{Sizes}
-use Rattle.reader.specs.Text.{seen_as, parsed, at}
-use Rattle.reader.specs.Layout.{size, entries, number_in, lay, write}
+use Rattle.cursor.specs.Text.{seen_as, found, parsed, at}
+use Rattle.cursor.specs.Reading.{in_hand, says, Opens}
+use Rattle.cursor.specs.Layout.{size, entries, number_in, lay, write}
 use Rattle.reader.specs.Read.{judged, sheet_in, places, counted, laid, filled}
 use Rattle.reader.specs.Sheet.{OpenedAs, Said, SheetAs}
-use Rattle.reader.proofs.Steps.{past_end}
-use Rattle.reader.proofs.Laid.{length_lay, write_on}
+use Rattle.cursor.proofs.Steps.{from_at, past_end}
+use Rattle.cursor.proofs.Laying.{length_lay, write_on}
 
 pub short : (t : List ℕ) → length t ≤ most_letters → sheet_in t ≡ judged (parsed t)
 short t h = cond-false (ltb most_letters (length t)) _ _ (le-ltb most_letters (length t) h)
 
-pub sheet_refused : (t : List ℕ) (xs ys : List Node) (es : List (Entry Declared)) (r : Result Sizes Fault) (e : Fault) → r ≡ Err e → length t ≤ most_letters → parsed t ≡ fault e.refusal e.place → SheetAs t xs ys es r
-sheet_refused t xs ys es r e i h p = subst (λ (x : Result Sizes Fault). SheetAs t xs ys es x) (sym i) (short t h ∙ ap judged p)
+pub sheet_refused : (t : List ℕ) (xs ys : List Node) (r : Result Sizes Fault) (e : Fault) → r ≡ Err e → length t ≤ most_letters → parsed t ≡ fault e.refusal e.place → SheetAs t xs ys r
+sheet_refused t xs ys r e i h p = subst (λ (x : Result Sizes Fault). SheetAs t xs ys x) (sym i) (short t h ∙ ap judged p)
 
-pub opening_refused : (t : List ℕ) (xs ys : List Node) (es ds : List (Entry Declared)) (r : Result Ahead Fault) (e : Fault) → r ≡ Err e → parsed t ≡ fault e.refusal e.place → OpenedAs t xs ys es ds r
-opening_refused t xs ys es ds r e i p = subst (λ (x : Result Ahead Fault). OpenedAs t xs ys es ds x) (sym i) p
+pub opening_refused : (t : List ℕ) (xs ys : List Node) (ds : List (Entry Binding)) (r : Result Cursor Fault) (e : Fault) → r ≡ Err e → parsed t ≡ fault e.refusal e.place → OpenedAs t xs ys ds r
+opening_refused t xs ys ds r e i p = subst (λ (x : Result Cursor Fault). OpenedAs t xs ys ds x) (sym i) p
 
-pub opened : (t : List ℕ) (d : Tree) (w : Found) (xs ys : List Node) (es ds : List (Entry Declared)) (r : Result Ahead Fault) → parsed t ≡ at t (declared d) w → ListedAs t d w xs ys es ds r → OpenedAs t xs ys es ds r
-opened t d w xs ys es ds (Ok a) p h = record { tree = h.tree; listed = h.listed; goes_on = p ∙ h.goes_on }
-opened t d w xs ys es ds (Err e) p h = p ∙ h
+-- the first word of the text that a cursor begins with
+pub opened : {t : List ℕ} {a : Cursor} → Opens t a → parsed t ≡ says empty a
+opened {t} {a} o = from_at t empty 0 ∙ (ap (at t empty) (sym o.word) ∙ ap (λ u. at u empty (in_hand a)) (sym o.text))
+
+pub not_opened : (t : List ℕ) (e : Fault) → wrong e.refusal e.place ≡ found t 0 → parsed t ≡ fault e.refusal e.place
+not_opened t e h = from_at t empty 0 ∙ ap (at t empty) (sym h)
 
 pub past_word : (t : List ℕ) (s : Tree) (w : Word) (p q : ℕ) → (w ≡ W.End → ⊥) → at t (over s) (seen_as (meant w) p q) ≡ fault R.AfterEnd p
 past_word t s (W.Name x) p q n = past_end t s (name (record { place = p; size = q - p })) q
@@ -56,34 +61,30 @@ write_row z (b ∷ bs) ps (suc n) h =
     let k : n - length bs ≡ suc n - length (b ∷ bs) = omega arith in
     ap (λ l. write l (length ps + 1) bs) e1 ∙ (ap (λ j. write ((ps ++ (b ∷ [])) ++ replicate n z) j bs) e2 ∙ (ih ∙ (append_assoc ps (b ∷ []) _ ∙ ap (λ j. ps ++ (b ∷ (bs ++ replicate j z))) k)))
 
-pub taken_row : {X : Type 0} (z : X) (bs : List X) (n : ℕ) → length bs ≤ n → take (length bs) (write (replicate n z) 0 bs) ≡ bs
-taken_row z bs n h = ap (take (length bs)) (write_row z bs [] n h) ∙ take_at bs (replicate (n - length bs) z) (length bs) refl
-
--- the nodes of a whole sheet, its names looked up in the table
-pub laid_whole : (t : List ℕ) (d a : Tree) (n : ℕ) (xs ys zs : List Node) (z : Entry Declared) (es ds ns : List (Entry Declared)) → Listed d n xs ys es ds → zs ≡ write ys n (lay (number_in t ns) n a) →
-    es ≡ replicate (length es) z → ns ≡ take (min n (length ds)) ds → length ds ≡ length es → size (sheet d a) ≤ length es → zs ≡ write xs 0 (laid t (sheet d a))
-laid_whole t d a n xs ys zs z es ds ns l h row slice long fits =
+-- the nodes of a whole sheet, its names looked up among those noted
+pub laid_whole : (t : List ℕ) (d a : Tree) (n : ℕ) (xs ys zs : List Node) (ds ns : List (Entry Binding)) → Listed d n xs ys ds → zs ≡ write ys n (lay (number_in t ns) n a) → ns ≡ ds → size (sheet d a) ≤ most_nodes →
+    zs ≡ write xs 0 (laid t (sheet d a))
+laid_whole t d a n xs ys zs ds ns l h all fits =
     let c = l.count in
-    let m : min n (length ds) ≡ length (entries d) = omega (arith, l.sized) in
-    let names : ns ≡ entries d = slice ∙ (ap (λ k. take k ds) m ∙ (ap (take (length (entries d))) (l.names ∙ ap (λ (x : List (Entry Declared)). write x 0 (entries d)) row) ∙ taken_row z (entries d) (length es) (omega (arith, l.sized)))) in
+    let names : ns ≡ entries d = all ∙ (l.names ∙ take_all most_nodes (entries d) (omega (arith, l.sized))) in
     let f = number_in t (entries d) in
-    h ∙ (ap (λ (x : List (Entry Declared)). write ys n (lay (number_in t x) n a)) names
+    h ∙ (ap (λ (x : List (Entry Binding)). write ys n (lay (number_in t x) n a)) names
     ∙ (ap (λ (y : List Node). write y n (lay f n a)) (l.nodes f)
     ∙ (write_on xs 0 (lay f 0 d) (lay f n a) n (omega (arith, length_lay f 0 d))
     ∙ ap (λ k. write xs 0 (lay f 0 d ++ lay f k a)) (let e : n ≡ 0 + size d = omega arith in e))))
 
 -- what Read answers and leaves
-pub read_fits : (t : List ℕ) (g : ℕ) (xs ys : List Node) (es : List (Entry Declared)) (z : Sizes) → Said t xs ys es z → xs ≡ replicate g blank → (e : Entry Declared) → es ≡ replicate (length es) e → length es ≡ most_nodes → z.nodes ≤ places g →
+pub read_fits : (t : List ℕ) (g : ℕ) (xs ys : List Node) (z : Sizes) → Said t xs ys z → xs ≡ replicate g blank → z.nodes ≤ places g →
     (◌≡◌ {A = Result Sizes Fault} (Ok z) (counted g (sheet_in t))) × (ys ≡ filled t g (sheet_in t))
-read_fits t g xs ys es z s x e r k h =
+read_fits t g xs ys z s x h =
     let fits = le-leb (size s.tree) (places g) (omega (arith, s.nodes)) in
     let l = length_lay (number_in t (entries s.tree)) 0 s.tree in (
       ap (λ (k : ℕ). Ok (record { nodes = k; variables = z.variables })) s.nodes ∙ (ap (λ (k : ℕ). Ok (record { nodes = size s.tree; variables = k })) s.variables ∙ sym (ap (counted g) s.says ∙ cond-true _ _ _ fits)),
-      s.laid_out e r (omega (arith, s.nodes)) ∙ (ap (λ (l : List Node). write l 0 (laid t s.tree)) x ∙ (write_row blank (laid t s.tree) [] g (omega (arith, s.nodes, l)) ∙ (ap (λ k. laid t s.tree ++ replicate (g - k) blank) l ∙ sym (ap (filled t g) s.says ∙ cond-true _ _ _ fits)))),
+      s.laid_out (omega (arith, s.nodes)) ∙ (ap (λ (l : List Node). write l 0 (laid t s.tree)) x ∙ (write_row blank (laid t s.tree) [] g (omega (arith, s.nodes, l)) ∙ (ap (λ k. laid t s.tree ++ replicate (g - k) blank) l ∙ sym (ap (filled t g) s.says ∙ cond-true _ _ _ fits)))),
     )
 
-pub read_many : (t : List ℕ) (g : ℕ) (xs ys : List Node) (es : List (Entry Declared)) (z : Sizes) → Said t xs ys es z → places g < z.nodes → (counted g (sheet_in t) ≡ Err (record { refusal = R.ManyNodes; place = 0 })) × (filled t g (sheet_in t) ≡ replicate g blank)
-read_many t g xs ys es z s h =
+pub read_many : (t : List ℕ) (g : ℕ) (xs ys : List Node) (z : Sizes) → Said t xs ys z → places g < z.nodes → (counted g (sheet_in t) ≡ Err (record { refusal = R.ManyNodes; place = 0 })) × (filled t g (sheet_in t) ≡ replicate g blank)
+read_many t g xs ys z s h =
     let no = lt-leb (size s.tree) (places g) (omega (arith, s.nodes)) in
     (ap (counted g) s.says ∙ cond-false _ _ _ no, ap (filled t g) s.says ∙ cond-false _ _ _ no)
 

@@ -9,8 +9,8 @@ use Rattle.nodes.specs.Nodes.{blank}
 use Rattle.grammar.specs.Machine.{stop}
 use Rattle.grammar.specs.Laws.{Means}
 use Rattle.reader.specs.declared.read.Sizes.{Sizes}
-use Rattle.reader.specs.Text.{words_of, last_of}
-use Rattle.reader.specs.Layout.{size, entries}
+use Rattle.cursor.specs.Text.{words_of, last_of}
+use Rattle.cursor.specs.Layout.{size, entries}
 use Rattle.reader.specs.Read.{fault, places, laid, read_says, read_nodes}
 
 -- a text within the limits whose words the grammar derives

@@ -10,8 +10,8 @@ use Rattle.grammar.specs.Grammar.{Tree}
 use Rattle.grammar.specs.Machine.{Answer}
 use Rattle.grammar.specs.Machine as M
 use Rattle.reader.specs.declared.read.Sizes.{Sizes}
-use Rattle.reader.specs.Text.{parsed}
-use Rattle.reader.specs.Layout.{size, entries, number_in, lay}
+use Rattle.cursor.specs.Text.{parsed}
+use Rattle.cursor.specs.Layout.{size, entries, number_in, lay}
 
 abbrev pub fault : {X : Type 0} → Refusal → ℕ → Result X Fault
 fault m p = Err (record { refusal = m; place = p })

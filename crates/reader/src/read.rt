@@ -1,77 +1,48 @@
 // Read: fills the caller's nodes, or tells the first fault.
-ghost use Rattle.std.specs.Prelude.{◌≡◌, ◌*◌, ◌≤◌, min, length, replicate, IfOk};
-ghost use Rattle.words.specs.Words.{Stands};
+ghost use Rattle.std.specs.Prelude.{◌≡◌, ◌*◌, ◌≤◌, [], length, replicate, IfOk};
 ghost use Rattle.nodes.specs.Limits.{most_letters};
 ghost use Rattle.nodes.specs.Nodes.{blank};
-ghost use Rattle.grammar.specs.Grammar.{Tree, sheet as sheet_tree};
-ghost use Rattle.grammar.specs.Machine.{series as open_series, whole, over};
-ghost use Rattle.reader.specs.Text.{token as token_of};
-ghost use Rattle.reader.specs.Layout.{number_in};
-ghost use Rattle.reader.specs.Parts.{Space, ReadAs};
 ghost use Rattle.reader.specs.Sheet.{OpenedAs, SheetAs, FilledAs};
 ghost use Rattle.reader.specs.Read.{read_says, read_nodes};
 
-use crate::declarations::{declaration, others};
-use crate::names::Declared;
-use crate::statement::series;
-use crate::step::{Ahead, expect};
+use arrayvec::ArrayVec;
+use cursor::cursor::Cursor;
+use nodes::binding::Binding;
 use nodes::limits::{LETTERS, NODES};
 use nodes::node::{BLANK, Node};
+use parser::declarations::{declaration, others};
+use parser::statement::block;
 use spelling::Entry;
-use words::next_word;
 use words::word::{Fault, Fixed, Refusal, Word};
 
 // How many nodes a sheet has, and how many of them, the first, declare variables.
-#[derive(Clone, Copy)]
+#[derive(Clone, Copy, PartialEq, Eq, Debug)]
 pub struct Sizes {
     pub nodes: u16,
     pub variables: u16,
 }
 
-const NO_NAME: Entry<Declared> = Entry {
-    place: 0,
-    size: 0,
-    value: Declared { kind: 0, number: 0 },
-};
-
-// `begin`, `declare` and all declarations: their nodes, and the table of their names.
+// `begin`, `declare` and all declarations: their nodes, and their names.
 fn opening<'a>(
     text: &'a [u8],
     out: &mut [Node],
-    table: &mut [Entry<Declared>],
-) -> Result<Ahead<'a>, Fault>
-    requires { length text.now ≤ most_letters }
-    ensures on { IfOk result (λ a. Stands text.now 0 a.token × (a.count ≤ 2 * a.token.place)) }
-    ensures is { OpenedAs text.now out.old out.new table.old table.new result }
+    names: &mut ArrayVec<Entry<Binding>, NODES>,
+) -> Result<Cursor<'a>, Fault>
+    requires { (length text.now ≤ most_letters) × (names.old.items ≡ []) }
+    ensures on { IfOk result (λ a. (a.text.now ≡ text.now) × (a.count ≤ 2 * a.token.place)) }
+    ensures is { OpenedAs text.now out.old out.new names.new.items result }
 {
-    let begin = next_word(text, 0)?;
-    let declare = expect(text, begin, Fixed::Begin)?;
-    let name = expect(text, declare, Fixed::Declare)?;
-    let first = declaration(text, name, out, table, 0)?;
-    others(text, first, out, table, 1)
+    let mut cursor = Cursor::new(text)?;
+    cursor.expect(Fixed::Begin)?;
+    cursor.expect(Fixed::Declare)?;
+    declaration(&mut cursor, out, names)?;
+    others(&mut cursor, out, names)?;
+    Ok(cursor)
 }
 
-// The series, and the `end` behind it.
-fn body<'a>(
-    text: &'a [u8],
-    names: &[Entry<Declared>],
-    declared: Ahead<'a>,
-    out: &mut [Node],
-) -> Result<Ahead<'a>, Fault>
-    requires { Stands text.now 0 declared.token × Space text.now declared.token declared.count }
-    ensures { ReadAs {C = Tree} (λ d. open_series (whole d)) (λ d a. over (sheet_tree d a)) text.now (token_of declared.entry.token) (number_in text.now names.now) declared.entry.count out.old out.new result }
-{
-    let all = series(text, names, declared.token, out, declared.count)?;
-    let next = expect(text, all.token, Fixed::End)?;
-    Ok(Ahead {
-        token: next,
-        count: all.count,
-    })
-}
-
-// Reads a whole sheet into nodes that are as yet blank, with a table for the names. After a fault they hold anything.
-fn sheet(text: &[u8], out: &mut [Node], table: &mut [Entry<Declared>]) -> Result<Sizes, Fault>
-    ensures { SheetAs text.now out.old out.new table.old result }
+// Reads a whole sheet into nodes that are as yet blank. After a fault the nodes hold anything.
+fn sheet(text: &[u8], out: &mut [Node]) -> Result<Sizes, Fault>
+    ensures { SheetAs text.now out.old out.new result }
 {
     if text.len() > LETTERS {
         return Err(Fault {
@@ -79,18 +50,23 @@ fn sheet(text: &[u8], out: &mut [Node], table: &mut [Entry<Declared>]) -> Result
             place: LETTERS,
         });
     }
-    let declared = opening(text, out, table)?;
-    let known = (declared.count as usize).min(table.len());
-    let all = body(text, &table[0..known], declared, out)?;
-    let token = all.token;
-    match token.word {
+    let mut names = ArrayVec::new();
+    let opened = opening(text, out, &mut names)?;
+    let mut cursor = Cursor {
+        text,
+        names: names.as_slice(),
+        token: opened.token,
+        count: opened.count,
+    };
+    block(&mut cursor, out, Fixed::End)?;
+    match cursor.token.word {
         Word::End => Ok(Sizes {
-            nodes: all.count,
-            variables: declared.count,
+            nodes: cursor.count,
+            variables: opened.count,
         }),
         _ => Err(Fault {
             refusal: Refusal::AfterEnd,
-            place: token.place,
+            place: cursor.token.place,
         }),
     }
 }
@@ -106,8 +82,7 @@ fn fill(text: &[u8], nodes: &mut [Node]) -> Result<Sizes, Fault>
     ensures { FilledAs text.now (length nodes.old) nodes.new result }
 {
     wipe(nodes);
-    let mut table = [NO_NAME; 512];
-    sheet(text, nodes, &mut table)
+    sheet(text, nodes)
 }
 
 // The client's Read: the sheet's nodes and then zeros, or the first fault and all zeros.
@@ -115,9 +90,10 @@ pub fn read(text: &[u8], nodes: &mut [Node]) -> Result<Sizes, Fault>
     ensures says { result ≡ read_says text.now (length nodes.old) }
     ensures nodes { nodes.new ≡ read_nodes text.now (length nodes.old) }
 {
+    // Stays: a match, since the nodes are wiped before a fault goes on; the one of the count has place 0, since it belongs to no word.
     match fill(text, nodes) {
         Ok(sizes) => {
-            if sizes.nodes as usize > NODES.min(nodes.len()) {
+            if usize::from(sizes.nodes) > NODES.min(nodes.len()) {
                 wipe(nodes);
                 return Err(Fault {
                     refusal: Refusal::ManyNodes,

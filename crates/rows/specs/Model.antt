@@ -1,5 +1,5 @@
 -- The list that a value of `Rows` stands for.
-use Rattle.std.specs.Prelude.{ℕ, List, take, vec_items}
+use Rattle.std.specs.Prelude.{ℕ, List, vec_items}
 use Rattle.shelf.specs.declared.entry.Entry.{Entry}
 use Rattle.shelf.specs.Limits.{longest}
 use Rattle.shelf.specs.Value.{Value}
@@ -11,4 +11,4 @@ abbrev pub row : Entry → ℕ
 row e = longest
 
 unfoldable pub list_of : Rows → List Value
-list_of s = laid row (take s.count s.entries) (vec_items s.memory)
+list_of s = laid row s.entries.items (vec_items s.memory)

@@ -41,14 +41,14 @@ made_ready t u e h = ap (λ v. made_by v u) e ∙ by u h
     by Ended h = refl
     by (Stopped c a) h = absurd (h c a refl)
 
--- no beat is made exactly where it then stands stopped
-pub none_since : (u : Status) → made_by Ready u ≡ 0 → (c : Cause) × (a : ℕ) × (u ≡ Stopped c a)
-none_since Ready e = absurd (omega arith)
-none_since Ended e = absurd (omega arith)
-none_since (Stopped c a) e = (c, a, refl)
+-- a beat is made exactly where it then does not stand stopped
+pub none_since : (u : Status) → (made_by Ready u ≡ 1 → ⊥) → (c : Cause) × (a : ℕ) × (u ≡ Stopped c a)
+none_since Ready h = absurd (h refl)
+none_since Ended h = absurd (h refl)
+none_since (Stopped c a) h = (c, a, refl)
 
-pub some_since : (u : Status) → (made_by Ready u ≡ 0 → ⊥) → (c : Cause) (a : ℕ) → u ≡ Stopped c a → ⊥
-some_since u h c a e = h (ap (made_by Ready) e)
+pub some_since : (u : Status) → made_by Ready u ≡ 1 → (c : Cause) (a : ℕ) → u ≡ Stopped c a → ⊥
+some_since u h c a e = let f : made_by Ready u ≡ 0 = ap (made_by Ready) e in omega arith
 
 module _ (sh : Sheet) (R : ℕ) where
   stays_at : (t : Status) (vs : List Value) (ts : List ℕ) → Still t → beat_at sh R vs ts t ≡ record { values = vs; todo = ts; status = t }

@@ -1,4 +1,4 @@
--- That the semantics agrees with the report's evaluation.
+-- That the semantics agrees with the language's own rules of evaluation.
 use Rattle.std.specs.Prelude.{◌≡◌, ℕ, ◌⊎◌, List}
 use Rattle.nodes.specs.Nodes.{Sheet}
 use Rattle.deck.specs.Sound.{Sound}

@@ -3,9 +3,11 @@ ghost use Rattle.std.specs.Prelude.{◌≡◌};
 ghost use Rattle.semantics.specs.Refusals.{number_of};
 
 use shelf::Refusal;
+use std::error::Error;
+use std::fmt;
 
 // Why a player stopped.
-#[derive(Clone, Copy)]
+#[derive(Clone, Copy, PartialEq, Eq, Debug)]
 pub enum Cause {
     // A sum above the largest number.
     SumTooLarge,
@@ -18,7 +20,7 @@ pub enum Cause {
 }
 
 // The client's stand: ready for a beat, at the end, or stopped at a statement's node.
-#[derive(Clone, Copy)]
+#[derive(Clone, Copy, PartialEq, Eq, Debug)]
 pub enum Status {
     Ready,
     Ended,
@@ -27,6 +29,7 @@ pub enum Status {
 
 impl Cause {
     // The number by which people know the cause.
+    // Stays: a match, since one case carries a refusal, and an enum with fields is not turned into a number by `as`.
     pub fn number(self) -> u8
         ensures { result ≡ number_of self }
     {
@@ -35,6 +38,39 @@ impl Cause {
             Cause::TextTooLong => 71,
             Cause::NoRoom(_) => 72,
             Cause::TooFewSlots => 73,
+        }
+    }
+}
+
+impl From<Cause> for u8 {
+    ghost from_gives = { λ cause number. number ≡ number_of cause };
+
+    fn from(cause: Cause) -> u8 {
+        cause.number()
+    }
+}
+
+impl fmt::Display for Cause {
+    fn fmt<W: fmt::Write>(&self, f: &mut fmt::Formatter<W>) -> fmt::Result {
+        f.write_str(match self {
+            Cause::SumTooLarge => "a sum is above 4294967295",
+            Cause::TextTooLong => "a text is longer than 80 bytes",
+            Cause::NoRoom(_) => "there is no room for the text on the shelf",
+            Cause::TooFewSlots => "the shelf has too few slots for the sheet's variables",
+        })
+    }
+}
+
+impl Error for Cause {}
+
+impl fmt::Display for Status {
+    fn fmt<W: fmt::Write>(&self, f: &mut fmt::Formatter<W>) -> fmt::Result {
+        match self {
+            Status::Ready => f.write_str("ready"),
+            Status::Ended => f.write_str("ended"),
+            Status::Stopped { cause, node } => {
+                write!(f, "stopped with {} at node {node}", cause.number())
+            }
         }
     }
 }

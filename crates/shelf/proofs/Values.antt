@@ -1,7 +1,9 @@
 -- Totals and limits of a list of values.
-use Rattle.std.proofs.Common.{◌≡◌, ℕ, zero, suc, ◌+◌, ◌*◌, ◌<◌, ◌≤◌, false, List, [], ◌∷◌, length, get_or, set, refl, mul-suc, arith, ltb-false}
+use Rattle.std.proofs.Common.{◌≡◌, ℕ, zero, suc, ◌+◌, ◌*◌, ◌<◌, ◌≤◌, false, cond, List, [], ◌∷◌, Ok, Err, length, get_or, set, refl, ap, ◌∙◌, mul-suc, arith, lt-ltb, ltb-false}
+use Rattle.shelf.specs.declared.refusal.Refusal.TheVariants.{NoEntry}
 use Rattle.shelf.specs.Limits.{longest}
 use Rattle.shelf.specs.Value.{Value, number, text, bytes_of, total, over}
+use Rattle.shelf.specs.Calls.{held_told}
 
 pub total_set : (vs : List Value) (i : ℕ) (v d : Value) → i < length vs → total (set vs i v) + length (bytes_of (get_or vs i d)) ≡ total vs + length (bytes_of v)
 total_set [] i v d h = absurd (omega arith)
@@ -30,3 +32,7 @@ total_bounded (v ∷ vs) b =
     let h = short_bytes v (b zero) in
     let r = total_bounded vs (λ i. b (suc i)) in
     omega (arith, mul-suc longest (length vs))
+
+-- what is told of an entry that is there
+pub told : (vs : List Value) (i : ℕ) (v : Value) → i < length vs → get_or vs i (number 0) ≡ v → held_told i vs ≡ Ok v
+told vs i v h e = ap (λ b. cond b (Ok (get_or vs i (number 0))) (Err NoEntry)) (lt-ltb i (length vs) h) ∙ ap Ok e

@@ -1,5 +1,6 @@
 -- What each call of a shelf answers, and the list that it leaves: S is the shelf's slots, R its capacity, vs its list.
-use Rattle.std.specs.Prelude.{ℕ, ◌-◌, Bool, true, cond, ◌&&◌, ◌||◌, List, [], ◌∷◌, ◌++◌, map, length, replicate, Ok, Err, Result, ◌==◌, nat_lt, slice_index_or, slice_set}
+use Rattle.std.specs.Prelude.{ℕ, ◌-◌, Bool, cond, ◌||◌, List, [], ◌++◌, map, length, replicate, Ok, Err, Result, ◌==◌, nat_lt, slice_index_or, slice_set}
+use Rattle.std.specs.List.{list_all}
 use Rattle.shelf.specs.declared.refusal.Refusal.{Refusal}
 use Rattle.shelf.specs.declared.refusal.Refusal.TheVariants.{WrongCount, UnknownKind, NoEntry, OtherKind, TextTooLong, NoCapacity}
 use Rattle.shelf.specs.Limits.{longest}
@@ -19,8 +20,7 @@ abbrev pub known : ℕ → Bool
 known k = k == 1 || k == 2
 
 abbrev pub all_kinds : List ℕ → Bool
-all_kinds [] = true
-all_kinds (k ∷ ks) = known k && all_kinds ks
+all_kinds ks = list_all known ks
 
 abbrev pub open_told : ℕ → List ℕ → Result (Unit {0}) Refusal
 open_told S ks =
@@ -43,6 +43,10 @@ text_answer R i t vs =
 
 abbrev pub text_put : ℕ → ℕ → List ℕ → List Value → List Value
 text_put R i t vs = after (text_answer R i t vs) (slice_set vs i (text t)) vs
+
+-- the value at i
+abbrev pub held_told : ℕ → List Value → Result Value Refusal
+held_told i vs = cond (nat_lt i (length vs)) (Ok (slice_index_or vs i (number 0))) (Err NoEntry)
 
 abbrev pub kind_told : ℕ → List Value → Result ℕ Refusal
 kind_told i vs = cond (nat_lt i (length vs)) (Ok (kind_of (slice_index_or vs i (number 0)))) (Err NoEntry)

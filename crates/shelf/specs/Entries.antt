@@ -1,9 +1,10 @@
 -- The list that a table of entries and the bytes of their texts stand for, whatever bytes lie between the texts.
-use Rattle.std.specs.Prelude.{◌≡◌, ℕ, ◌-◌, Bool, false, cond, List, [], ◌∷◌, ◌++◌, map, length, take, drop, replicate, ◌==◌, nat_lt, slice_index_or}
+use Rattle.std.specs.Prelude.{◌≡◌, ℕ, Bool, false, cond, List, [], ◌∷◌, map, take, drop, Ok, Err, Result, ◌==◌, nat_lt, slice_index_or}
 use Rattle.shelf.specs.declared.entry.Entry.{Entry}
 use Rattle.shelf.specs.declared.entry.Entry.TheVariants.{Number, Text}
 use Rattle.shelf.specs.declared.entry.Held.{Held}
 use Rattle.shelf.specs.declared.entry.Held.TheVariants as H
+use Rattle.shelf.specs.declared.refusal.Refusal.{Refusal}
 use Rattle.shelf.specs.Limits.{most_slots, longest, largest}
 use Rattle.shelf.specs.Value.{Value, number, text}
 
@@ -27,6 +28,11 @@ abbrev pub meant : Held → Value
 meant (H.Number n) = number n
 meant (H.Text b) = text b.now
 
+-- the answer, with the value in the place of what holds it
+abbrev pub held_as : Result Held Refusal → Result Value Refusal
+held_as (Ok h) = Ok (meant h)
+held_as (Err e) = Err e
+
 -- whether an entry passes the limit of a number or of a text
 abbrev pub too_large : Entry → Bool
 too_large (Number n) = nat_lt largest n
@@ -39,6 +45,6 @@ Within es = (k : ℕ) → too_large (slice_index_or es k (Number 0)) ≡ false
 abbrev pub entry_for : ℕ → Entry
 entry_for k = cond (k == 1) (Number 0) (Text 0)
 
--- a table that begins with the entries for these kinds
+-- the entries for these kinds, as many as there can be slots
 abbrev pub table_for : List ℕ → List Entry
-table_for ks = map entry_for (take most_slots ks) ++ replicate (most_slots - length ks) (Number 0)
+table_for ks = map entry_for (take most_slots ks)

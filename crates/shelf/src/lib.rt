@@ -5,21 +5,22 @@ ghost use Rattle.std.specs.Prelude.{◌≡◌, ℕ, ◌≤◌, List, length, tak
 ghost use Rattle.shelf.specs.Limits.{longest};
 ghost use Rattle.shelf.specs.Laws.{Laws};
 ghost use Rattle.shelf.specs.Value.{Value};
-ghost use Rattle.shelf.specs.Calls.{open_told, open_list, number_answer, number_put, text_answer, text_put, known, all_kinds, kind_told, number_told, text_told, line_of};
+ghost use Rattle.shelf.specs.Kinds.{kind_at, kind_number};
+ghost use Rattle.shelf.specs.Entries.{held_as};
+ghost use Rattle.shelf.specs.Calls.{open_told, open_list, number_answer, number_put, text_answer, text_put, known, all_kinds, held_told, kind_told, number_told, text_told, line_of};
 
+use crate::entry::Held;
+pub use crate::kind::Kind;
 pub use crate::refusal::Refusal;
 
 pub mod entry;
+pub mod kind;
 pub mod refusal;
 
 // The most slots of a shelf.
 pub const SLOTS: usize = 64;
 // The most bytes of a text, and the length of a line.
 pub const LONGEST: usize = 80;
-// The kind of a variable that holds a number.
-pub const NUMBER: u8 = 1;
-// The kind of a variable that holds a text.
-pub const TEXT: u8 = 2;
 
 // A shelf means a list of values: at most `slots` of them (the client's seats), whose texts take at most `capacity` bytes
 // together (the client's room). No call alters either, and a refused call alters nothing.
@@ -34,6 +35,7 @@ pub trait Shelf: Sized {
     ghost laws: { Laws values slots capacity };
 
     // Makes the list anew, with an entry for each kind: 0, or the empty text.
+    // Stays: kinds are numbers here, since any number may come, and 61 refuses it.
     fn open(&mut self, kinds: &[u8]) -> Result<(), Refusal>
         ensures answer { result ≡ open_told (slots self.old) kinds.now }
         ensures list { values self.new ≡ open_list (slots self.old) kinds.now (values self.old) }
@@ -54,18 +56,45 @@ pub trait Shelf: Sized {
         ensures slots_stay { slots self.new ≡ slots self.old }
         ensures capacity_stays { capacity self.new ≡ capacity self.old };
 
+    // What the entry at i holds.
+    fn held(&self, i: usize) -> Result<Held<'_>, Refusal>
+        ensures { held_as result ≡ held_told i (values self.now) };
+
     // The kind of the entry at i.
-    fn kind(&self, i: usize) -> Result<u8, Refusal>
-        ensures { result ≡ kind_told i (values self.now) };
+    fn kind(&self, i: usize) -> Result<Kind, Refusal>
+        ensures kind { result ≡ kind_at i (values self.now) }
+        ensures told { kind_number result ≡ kind_told i (values self.now) }
+    {
+        match self.held(i)? {
+            Held::Number(_) => Ok(Kind::Number),
+            Held::Text(_) => Ok(Kind::Text),
+        }
+    }
 
     // The number at i.
     fn number(&self, i: usize) -> Result<u32, Refusal>
-        ensures { result ≡ number_told i (values self.now) };
+        ensures { result ≡ number_told i (values self.now) }
+    {
+        match self.held(i)? {
+            Held::Number(x) => Ok(x),
+            Held::Text(_) => Err(Refusal::OtherKind),
+        }
+    }
 
     // The length of the text at i, which then begins the line, with zeros behind it.
+    // Stays: the line is the caller's, since the core has no heap, and a refused question leaves it as it was.
     fn text(&self, i: usize, line: &mut [u8; LONGEST]) -> Result<usize, Refusal>
         ensures answer { result ≡ (text_told i (values self.now) line.old).answer }
-        ensures line { line.new ≡ (text_told i (values self.now) line.old).line };
+        ensures line { line.new ≡ (text_told i (values self.now) line.old).line }
+    {
+        match self.held(i)? {
+            Held::Number(_) => Err(Refusal::OtherKind),
+            Held::Text(bytes) => {
+                fill_line(line, bytes);
+                Ok(bytes.len())
+            }
+        }
+    }
 
     // How many entries there can be.
     fn slots(&self) -> usize
@@ -79,22 +108,18 @@ pub trait Shelf: Sized {
 fn is_kind(kind: u8) -> bool
     ensures { result ≡ known kind }
 {
-    kind == NUMBER || kind == TEXT
+    Kind::try_from(kind).is_ok()
 }
 
 // Whether every kind is known.
 fn all_kinds(kinds: &[u8]) -> bool
     ensures { result ≡ all_kinds kinds.now }
 {
-    for k in kinds {
-        if !is_kind(*k) {
-            return false;
-        }
-    }
-    true
+    kinds.iter().all(|&kind| is_kind(kind))
 }
 
 // What opening a shelf of so many slots answers.
+// Stays: kinds are numbers here too.
 pub fn may_open(slots: usize, kinds: &[u8]) -> Result<(), Refusal>
     ensures { result ≡ open_told slots kinds.now }
 {

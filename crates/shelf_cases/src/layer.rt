@@ -2,7 +2,8 @@
 ghost use Rattle.std.specs.Prelude.{◌≡◌};
 ghost use Rattle.shelf_cases.specs.Through.{through};
 
-use shelf::{LONGEST, Refusal, Shelf};
+use shelf::entry::Held;
+use shelf::{Kind, LONGEST, Refusal, Shelf};
 
 #[derive(Drop)]
 pub struct Layer<S: Shelf> {
@@ -45,7 +46,11 @@ impl<S: Shelf> Shelf for Layer<S> {
         self.below.put_text(i, bytes)
     }
 
-    fn kind(&self, i: usize) -> Result<u8, Refusal> {
+    fn held(&self, i: usize) -> Result<Held<'_>, Refusal> {
+        self.below.held(i)
+    }
+
+    fn kind(&self, i: usize) -> Result<Kind, Refusal> {
         self.below.kind(i)
     }
 

@@ -1,4 +1,4 @@
-use crate::drive::drive;
+use crate::drive::{Course, drive};
 use crate::layer::Layer;
 use packed::Packed;
 use rows::Rows;
@@ -37,7 +37,7 @@ fn lines<S: Shelf>(rt: &impl Abort, shelf: &mut S) {
 // A number in the place of a text.
 fn turns<S: Shelf>(rt: &impl Abort, shelf: &mut S) {
     assert_eq!(rt; shelf.put_number(1, 4294967295), Ok(()));
-    assert_eq!(rt; shelf.kind(1), Ok(1));
+    assert_eq!(rt; shelf.kind(1).map(u8::from), Ok(1));
     assert_eq!(rt; shelf.number(1), Ok(4294967295));
 }
 
@@ -98,12 +98,19 @@ fn same(
     j: usize,
     bytes: &[u8],
 ) -> Result<(), Fail> {
+    let course = Course {
+        kinds,
+        i,
+        x: 41,
+        j,
+        bytes,
+    };
     let mut rows = Rows::new(vec![in rt.alloc(); 0; 5120]?);
     let mut packed = Packed::new(vec![in rt.alloc(); 0; 5120]?);
     let mut on_rows = [1; LONGEST];
     let mut on_packed = [1; LONGEST];
-    let a = drive(&mut rows, kinds, i, 41, j, bytes, &mut on_rows);
-    let b = drive(&mut packed, kinds, i, 41, j, bytes, &mut on_packed);
+    let a = drive(&mut rows, &course, &mut on_rows);
+    let b = drive(&mut packed, &course, &mut on_packed);
     assert_eq!(rt; a, b);
     assert_eq!(rt; on_rows, on_packed);
     Ok(())

@@ -1,31 +1,27 @@
--- The search goes on from entry to entry.
-use Rattle.std.proofs.Common.{◌≡◌, ℕ, ◌+◌, ◌<◌, ◌≤◌, Bool, true, false, cond, List, length, get_or, drop, Some, None, Option, sym, refl, ap, ◌∙◌, add-one, drop-cons}
-use Rattle.std.proofs.lemmas.List.{drop_all}
+-- The search, as the first entry that spells a word.
+use Rattle.std.proofs.Common.{◌≡◌, Bool, true, false, cond, ℕ, List, [], ◌∷◌, Some, None, Option, Bor, sym, refl, ap, ◌∙◌}
+use Rattle.std.specs.List.{find}
+use Rattle.std.specs.Option.{option_map, MatchOption, IsSomeAnd}
 use Rattle.spelling.specs.declared.Entry.{Entry}
-use Rattle.spelling.specs.Table.{spells, matched, or_else, found}
+use Rattle.spelling.specs.Table.{spells, found}
 
-or_assoc : {T : Type 0} (x y z : Option T) → or_else x (or_else y z) ≡ or_else (or_else x y) z
-or_assoc (Some x) y z = refl
-or_assoc None y z = refl
+found_is : {T : Type 0} (ls w : List ℕ) (es : List (Entry T)) → found ls w es ≡ option_map (λ (e : Entry T). e.value) (find (λ (e : Entry T). spells ls w e.place e.size) es)
+found_is ls w [] = refl
+found_is {T} ls w (e ∷ es) = by (spells ls w e.place e.size) (found_is ls w es)
+  where
+    by : (b : Bool) → found ls w es ≡ option_map (λ (x : Entry T). x.value) (find (λ (x : Entry T). spells ls w x.place x.size) es) →
+        cond b (Some e.value) (found ls w es) ≡ option_map (λ (x : Entry T). x.value) (cond b (Some e) (find (λ (x : Entry T). spells ls w x.place x.size) es))
+    by true h = refl
+    by false h = h
 
-or_none : {T : Type 0} (x : Option T) → or_else x None ≡ x
-or_none (Some x) = refl
-or_none None = refl
+picked : {T : Type 0} {P : Bor (Entry T) → T → Type 0} (r : Option (Bor (Entry T))) (m : Option T) → MatchOption r (m ≡ None) (λ e. IsSomeAnd m (P e)) → ((e : Bor (Entry T)) (v : T) → P e v → v ≡ e.now.value) →
+    m ≡ option_map (λ (e : Entry T). e.value) (option_map (λ (e : Bor (Entry T)). e.now) r)
+picked None m h k = h
+picked (Some e) (Some v) h k = ap Some (k e v h)
+picked (Some e) None h k = absurd h
 
-cond_or : {T : Type 0} (b : Bool) (x : T) (z : Option T) → cond b (Some x) z ≡ or_else (cond b (Some x) None) z
-cond_or true x z = refl
-cond_or false x z = refl
-
-found_at : {T : Type 0} (ls w : List ℕ) (es : List (Entry T)) (i : ℕ) (e : Entry T) → i < length es → e ≡ get_or es i e →
-    found ls w (drop i es) ≡ or_else (matched ls w e) (found ls w (drop (i + 1) es))
-found_at ls w es i e h is =
-    ap (found ls w) (drop-cons es i e h) ∙ (rw (add-one, ← is) refl ∙ cond_or (spells ls w e.place e.size) e.value (found ls w (drop (i + 1) es)))
-
--- after entry i the hit is `next`
-pub found_more : {T : Type 0} (ls w : List ℕ) (es : List (Entry T)) (hit next : Option T) (i : ℕ) (e : Entry T) → i < length es → e ≡ get_or es i e →
-    next ≡ or_else hit (matched ls w e) → or_else hit (found ls w (drop i es)) ≡ or_else next (found ls w (drop (i + 1) es))
-found_more ls w es hit next i e h is n =
-    ap (or_else hit) (found_at ls w es i e h is) ∙ (or_assoc hit (matched ls w e) (found ls w (drop (i + 1) es)) ∙ ap (λ x. or_else x (found ls w (drop (i + 1) es))) (sym n))
-
-pub found_all : {T : Type 0} (ls w : List ℕ) (es : List (Entry T)) (hit : Option T) (i : ℕ) → length es ≤ i → or_else hit (found ls w (drop i es)) ≡ hit
-found_all ls w es hit i h = ap (λ x. or_else hit (found ls w x)) (drop_all i es h) ∙ or_none hit
+-- what `find` and `map` answer
+pub found_from : {T : Type 0} {P : Bor (Entry T) → T → Type 0} (ls w : List ℕ) (es : List (Entry T)) (r : Option (Bor (Entry T))) (m : Option T) →
+    option_map (λ (e : Bor (Entry T)). e.now) r ≡ find (λ (e : Entry T). spells ls w e.place e.size) es →
+    MatchOption r (m ≡ None) (λ e. IsSomeAnd m (P e)) → ((e : Bor (Entry T)) (v : T) → P e v → v ≡ e.now.value) → m ≡ found ls w es
+found_from {T} ls w es r m h k v = picked r m k v ∙ (ap (option_map (λ (e : Entry T). e.value)) h ∙ sym (found_is ls w es))

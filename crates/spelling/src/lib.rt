@@ -2,10 +2,11 @@
 #![tactic(auto)]
 
 ghost use Rattle.std.specs.Prelude.{◌≡◌};
-ghost use Rattle.spelling.specs.Table.{spells, matched, or_else, found};
+ghost use Rattle.spelling.specs.Table.{spells, found};
 
 // An entry of a table: where its spelling stands in the letters, and what it stands for.
-#[derive(Clone, Copy)]
+// Stays: a place and a length in letters, since that is the form that is asked for.
+#[derive(Clone, Copy, PartialEq, Eq, Default, Debug)]
 pub struct Entry<T> {
     pub place: usize,
     pub size: usize,
@@ -16,23 +17,9 @@ pub struct Entry<T> {
 fn part_is(letters: &[u8], place: usize, size: usize, spelling: &[u8]) -> bool
     ensures { result ≡ spells letters.now spelling.now place size }
 {
-    if place > letters.len() || size > letters.len() - place {
-        return false;
-    }
-    &letters[place..place + size] == spelling
-}
-
-// What the search has found once it has looked at `e` too: an earlier match stays.
-fn seen<T: Copy>(earlier: Option<T>, letters: &[u8], e: &Entry<T>, spelling: &[u8]) -> Option<T>
-    ensures { result ≡ or_else earlier (matched letters.now spelling.now e.now) }
-{
-    if earlier.is_some() {
-        return earlier;
-    }
-    if part_is(letters, e.place, e.size, spelling) {
-        Some(e.value)
-    } else {
-        None
+    match letters.get(place..) {
+        Some(rest) => size <= rest.len() && &rest[..size] == spelling,
+        None => false,
     }
 }
 
@@ -40,9 +27,8 @@ fn seen<T: Copy>(earlier: Option<T>, letters: &[u8], e: &Entry<T>, spelling: &[u
 pub fn find<T: Copy>(letters: &[u8], entries: &[Entry<T>], spelling: &[u8]) -> Option<T>
     ensures { result ≡ found letters.now spelling.now entries.now }
 {
-    let mut hit = None;
-    for e in entries {
-        hit = seen(hit, letters, e, spelling);
-    }
-    hit
+    entries
+        .iter()
+        .find(|e| part_is(letters, e.place, e.size, spelling))
+        .map(|e| e.value)
 }

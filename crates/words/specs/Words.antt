@@ -1,5 +1,5 @@
 -- The word at a place of a text, or its fault.
-use Rattle.std.specs.Prelude.{ℕ, ◌+◌, ◌-◌, ◌*◌, ◌≤◌, min, Bool, false, cond, not, ◌&&◌, List, [], ◌∷◌, length, is_some, Some, None, Ok, Err, codes, Option, Result, ◌==◌, nat_lt, slice_index}
+use Rattle.std.specs.Prelude.{◌≡◌, ℕ, ◌+◌, ◌-◌, ◌*◌, ◌≤◌, min, Bool, false, cond, not, ◌&&◌, List, [], ◌∷◌, length, is_some, IfOk, Some, None, Ok, Err, codes, Option, Result, ◌==◌, nat_lt, slice_index}
 use Rattle.std.specs.Str.{bytes_eq}
 use Rattle.words.specs.Bytes.{letter, digit, alnum, layout, allowed, every, runs_to, cut}
 use Rattle.words.specs.declared.word.Fixed.{Fixed}
@@ -35,6 +35,16 @@ abbrev pub told : Result Token Fault → Result Spelt Fault
 told (Ok t) = Ok (record { lex = meant t.word; place = t.place; next = t.next })
 told (Err f) = Err f
 
+-- what a scan hands out, by its answer and by what the token then is
+abbrev pub handed : Result (Unit {0}) Fault → Token → Result Token Fault
+handed (Ok u) t = Ok t
+handed (Err f) t = Err f
+
+-- where it is refused, the token stays
+abbrev pub Stays : Result (Unit {0}) Fault → Token → Token → Type 0
+Stays (Ok u) old new = Unit {0}
+Stays (Err f) old new = new ≡ old
+
 abbrev pub Scanned : Type 0
 Scanned = Result Spelt Fault
 
@@ -55,6 +65,12 @@ moves end = 0
 -- a word handed out from p on stands in the text, and takes the bytes that it should
 abbrev pub Stands : List ℕ → ℕ → Token → Type 0
 Stands t p w = (p ≤ w.place) × (w.place + moves (meant w.word) ≤ w.next) × (w.next ≤ length t)
+
+-- a scan from p on tells this: the word that is handed out stands in the text, and where it is refused, the token stays
+pub record Scans (t : List ℕ) (p : ℕ) (says : Scanned) (r : Result (Unit {0}) Fault) (old new : Token) : Type 0 where
+  pub is : told (handed r new) ≡ says
+  pub on : IfOk (handed r new) (Stands t p)
+  pub stays : Stays r old new
 
 abbrev pub keyword : List ℕ → Option Fixed
 keyword w =

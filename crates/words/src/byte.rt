@@ -2,7 +2,7 @@
 ghost use Rattle.std.specs.Prelude.{◌≡◌, ◌≤◌, length};
 ghost use Rattle.words.specs.Bytes.{member, every, run_end};
 
-#[derive(Clone, Copy)]
+#[derive(Clone, Copy, PartialEq, Eq, Debug)]
 pub enum Class {
     // Space, newline, tab.
     Layout,
@@ -14,45 +14,34 @@ pub enum Class {
     Allowed,
 }
 
+// Stays: a class is a value that callers hand on and that clauses name; a closure at each call would only spell its bytes again.
 impl Class {
     pub fn has(self, b: u8) -> bool
         ensures { result ≡ member self b }
     {
         match self {
-            Class::Layout => match b as char {
-                ' ' | '\n' | '\t' => true,
-                _ => false,
-            },
-            Class::Letter => match b as char {
-                'a'..='z' | 'A'..='Z' => true,
-                _ => false,
-            },
-            Class::Digit => match b as char {
-                '0'..='9' => true,
-                _ => false,
-            },
-            Class::Alnum => match b as char {
-                'a'..='z' | 'A'..='Z' | '0'..='9' => true,
-                _ => false,
-            },
-            Class::Allowed => match b as char {
+            Class::Layout => matches!(b as char, ' ' | '\n' | '\t'),
+            Class::Letter => matches!(b as char, 'a'..='z' | 'A'..='Z'),
+            Class::Digit => matches!(b as char, '0'..='9'),
+            Class::Alnum => matches!(b as char, 'a'..='z' | 'A'..='Z' | '0'..='9'),
+            Class::Allowed => matches!(
+                b as char,
                 'a'..='z'
-                | 'A'..='Z'
-                | '0'..='9'
-                | ' '
-                | '\n'
-                | '\t'
-                | '('
-                | ')'
-                | '+'
-                | '-'
-                | ';'
-                | ','
-                | '|'
-                | ':'
-                | '=' => true,
-                _ => false,
-            },
+                    | 'A'..='Z'
+                    | '0'..='9'
+                    | ' '
+                    | '\n'
+                    | '\t'
+                    | '('
+                    | ')'
+                    | '+'
+                    | '-'
+                    | ';'
+                    | ','
+                    | '|'
+                    | ':'
+                    | '='
+            ),
         }
     }
 }
@@ -63,21 +52,13 @@ pub(crate) fn run_end(text: &[u8], class: Class, at: usize) -> usize
     ensures is { result ≡ run_end class text.now at }
     ensures within { (at ≤ result) × (result ≤ length text.now) }
 {
-    let mut i = at;
-    while i < text.len() && class.has(text[i]) {
-        i += 1;
-    }
-    i
+    let run = text[at..].iter().take_while(|b| class.has(**b)).count();
+    at + run
 }
 
 // Whether all bytes are of the class.
 pub fn all(bytes: &[u8], class: Class) -> bool
     ensures { result ≡ every (member class) bytes.now }
 {
-    for b in bytes {
-        if !class.has(*b) {
-            return false;
-        }
-    }
-    true
+    bytes.iter().all(|b| class.has(*b))
 }

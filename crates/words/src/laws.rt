@@ -3,33 +3,23 @@ ghost use Rattle.words.specs.Examples.{Examples};
 ghost use Rattle.words.specs.Laws.{Longest, NoKeyword, MakesUp, Ends};
 
 // The longest word is taken, behind layout alone.
-pub fn longest_word_is_taken() -> u8
+pub fn longest_word_is_taken()
     ensures { Longest }
-{
-    0
-}
+{}
 
-pub fn names_are_no_keywords() -> u8
+pub fn names_are_no_keywords()
     ensures { NoKeyword }
-{
-    0
-}
+{}
 
-pub fn words_make_up_the_text() -> u8
+pub fn words_make_up_the_text()
     ensures { MakesUp }
-{
-    0
-}
+{}
 
-pub fn reading_ends() -> u8
+pub fn reading_ends()
     ensures { Ends }
-{
-    0
-}
+{}
 
 // Worked examples.
-pub fn examples_hold() -> u8
+pub fn examples_hold()
     ensures { Examples }
-{
-    0
-}
+{}

@@ -8,6 +8,7 @@ use spelling::{Entry, find};
 
 const LETTERS: &[u8] = b"beginenddeclareintegerstringifthenelsefiwhiledood";
 
+// Stays: entries of place, length and value, since that is the form that is asked for the search.
 const KEYWORDS: [Entry<Fixed>; 12] = [
     Entry {
         place: 0,
@@ -82,8 +83,10 @@ pub fn keyword_of(spelling: &[u8]) -> Option<Fixed>
 pub fn is_name(w: &[u8]) -> bool
     ensures { result ≡ is_name w.now }
 {
-    if w.len() == 0 {
-        return false;
+    match w {
+        [] => false,
+        [first, ..] => {
+            Class::Letter.has(*first) && all(w, Class::Alnum) && keyword_of(w).is_none()
+        }
     }
-    Class::Letter.has(w[0]) && all(w, Class::Alnum) && keyword_of(w).is_none()
 }

@@ -1,17 +1,22 @@
-ghost use Rattle.std.specs.Prelude.{◌≡◌, ◌+◌, ◌<◌, ◌≤◌, false, [], map, length, take, vec_len, sum_by, slice_index_or, slice_set};
+ghost use Rattle.std.specs.Prelude.{◌≡◌, ◌+◌, ◌<◌, ◌≤◌, false, [], map, length, take, vec_len, sum_by, slice_index_or, slice_set, IfOk, IfErr, OnOk};
 ghost use Rattle.shelf.specs.declared.entry.Entry.TheVariants.{Number};
+ghost use Rattle.shelf.specs.declared.refusal.Refusal.TheVariants.{NoEntry};
+ghost use Rattle.arrayvec.specs.ArrayVec.{array_vec_len};
 ghost use Rattle.shelf.specs.Limits.{most_slots, longest};
-ghost use Rattle.shelf.specs.Value.{number, text, total, bytes_of};
+ghost use Rattle.shelf.specs.Value.{number, text, total};
 ghost use Rattle.shelf.specs.Calls.{fresh};
-ghost use Rattle.shelf.specs.Entries.{extent, value_at, too_large, meant};
+ghost use Rattle.shelf.specs.Entries.{extent, value_at, too_large};
 ghost use Rattle.packed.specs.Capacity.{capacity_of};
+ghost use Rattle.packed.specs.Slots.{entries_of};
 ghost use Rattle.packed.specs.Model.{list_of};
 ghost use Rattle.packed.specs.Kept.{packed_laws};
 
 use super::Packed;
-use crate::packed::{pool, starts};
+use crate::packed::pool;
+use crate::slot::{Slot, shift, slots_for};
+use arrayvec::ArrayVec;
 use shelf::entry::{Entry, Held};
-use shelf::{LONGEST, NUMBER, Refusal, SLOTS, Shelf, TEXT};
+use shelf::{LONGEST, Refusal, SLOTS, Shelf};
 
 // The most bytes of all texts together: more could not be on a shelf.
 const MOST_BYTES: usize = SLOTS * LONGEST;
@@ -36,9 +41,7 @@ impl Packed {
     {
         Packed {
             pool,
-            entries: [Entry::Number(0); SLOTS],
-            starts: [0; SLOTS],
-            count: 0,
+            slots: ArrayVec::new(),
             used: 0,
             capacity,
         }
@@ -51,54 +54,40 @@ impl Packed {
     {
         let Packed {
             pool,
-            entries: _,
-            starts: _,
-            count: _,
+            slots: _,
             used: _,
             capacity: _,
         } = self;
         pool
     }
 
-    // How many entries there are.
-    fn len(&self) -> usize
-        ensures length { result ≡ length (list_of self.now) }
-        ensures count { result ≡ self.now.count }
+    // The slot of entry i.
+    #[tactic(auto, using(crate::specs::Kept::length_list))]
+    fn slot(&self, i: usize) -> Result<Slot, Refusal>
+        ensures entry { IfOk result (λ slot. slot.entry ≡ slice_index_or (entries_of self.now.slots.items) i (Number 0)) }
+        ensures start { IfOk result (λ slot. slot.start ≡ sum_by extent (take i (entries_of self.now.slots.items))) }
+        ensures inside { OnOk result ((i < array_vec_len self.now.slots) × (i < length (list_of self.now))) }
+        ensures none { IfErr result (λ why. (why ≡ NoEntry) × (length (list_of self.now) ≤ i)) }
     {
-        self.count
+        self.slots.get(i).copied().ok_or(Refusal::NoEntry)
     }
 
-    // Where the bytes of entry i begin.
-    fn place(&self, i: usize) -> usize
-        requires { i < self.now.count }
-        ensures { result ≡ sum_by extent (take i self.now.entries) }
+    // The slot of entry i, which is there.
+    fn slot_at(&self, i: usize) -> Slot
+        requires { i < array_vec_len self.now.slots }
+        ensures entry { result.entry ≡ slice_index_or (entries_of self.now.slots.items) i (Number 0) }
+        ensures start { result.start ≡ sum_by extent (take i (entries_of self.now.slots.items)) }
     {
-        self.starts[i]
-    }
-
-    // The value at i.
-    fn held(&self, i: usize) -> Held<'_>
-        requires { i < self.now.count }
-        ensures is { slice_index_or (list_of self.now) i (number 0) ≡ meant result }
-        ensures short { length (bytes_of (meant result)) ≤ longest }
-    {
-        let entry = self.entries[i];
-        match entry {
-            Entry::Number(x) => Held::Number(x),
-            Entry::Text(len) => {
-                let at = self.place(i);
-                Held::Text(&self.pool[at..at + len])
-            }
-        }
+        self.slots[i]
     }
 
     // The bytes of all texts, this one in the place of the one at i.
     fn total_with(&self, i: usize, bytes: &[u8]) -> usize
-        requires inside { i < self.now.count }
+        requires inside { i < array_vec_len self.now.slots }
         requires short { length bytes.now ≤ longest }
         ensures { result ≡ total (slice_set (list_of self.now) i (text bytes.now)) }
     {
-        self.used - self.entries[i].size() + bytes.len()
+        self.used - self.slot_at(i).entry.size() + bytes.len()
     }
 
     // Makes the list anew.
@@ -107,45 +96,45 @@ impl Packed {
         ensures list { list_of self.new ≡ map fresh kinds.now }
         ensures capacity { self.new.capacity ≡ self.old.capacity }
     {
-        self.entries = shelf::entry::table_for(kinds);
-        self.starts = [0; SLOTS];
-        self.count = kinds.len();
+        self.slots = slots_for(kinds);
         self.used = 0;
     }
 
     // Puts an entry, with its bytes, in the place of entry i.
     fn replace(&mut self, i: usize, entry: Entry, bytes: &[u8])
-        requires inside { i < self.old.count }
+        requires inside { i < array_vec_len self.old.slots }
         requires size { extent entry ≡ length bytes.now }
         requires within { too_large entry ≡ false }
-        requires fits { self.old.used + length bytes.now ≤ self.old.capacity + extent (slice_index_or self.old.entries i (Number 0)) }
+        requires fits { self.old.used + length bytes.now ≤ self.old.capacity + extent (slice_index_or (entries_of self.old.slots.items) i (Number 0)) }
         ensures list { list_of self.new ≡ slice_set (list_of self.old) i (value_at entry bytes.now) }
         ensures capacity { self.new.capacity ≡ self.old.capacity }
     {
-        let from = self.place(i);
-        let old = self.entries[i].size();
+        let Slot {
+            entry: before,
+            start: from,
+        } = self.slot_at(i);
+        let old = before.size();
         pool::splice(&mut self.pool, from, from + old, self.used, bytes);
-        starts::shift(&mut self.starts, i + 1, self.count, old, bytes.len());
+        shift(&mut self.slots, i + 1, old, bytes.len());
         self.used = self.used - old + bytes.len();
-        self.entries[i] = entry;
+        self.slots[i].entry = entry;
     }
 
     // Sets the value at i to a number; over a number nothing moves.
     fn set_number(&mut self, i: usize, x: u32)
-        requires { i < self.old.count }
+        requires { i < array_vec_len self.old.slots }
         ensures list { list_of self.new ≡ slice_set (list_of self.old) i (number x) }
         ensures capacity { self.new.capacity ≡ self.old.capacity }
     {
-        let old = self.entries[i];
-        match old {
-            Entry::Number(_) => self.entries[i] = Entry::Number(x),
+        match self.slot_at(i).entry {
+            Entry::Number(_) => self.slots[i].entry = Entry::Number(x),
             Entry::Text(_) => self.replace(i, Entry::Number(x), &[]),
         }
     }
 
     // Sets the value at i to a text.
     fn set_text(&mut self, i: usize, bytes: &[u8])
-        requires inside { i < self.old.count }
+        requires inside { i < array_vec_len self.old.slots }
         requires short { length bytes.now ≤ longest }
         requires fits { total (slice_set (list_of self.old) i (text bytes.now)) ≤ self.old.capacity }
         ensures list { list_of self.new ≡ slice_set (list_of self.old) i (text bytes.now) }
@@ -170,18 +159,15 @@ impl Shelf for Packed {
         Ok(())
     }
 
+    // Stays: here and in `rows`, since a trait for both would have to name the slot, `lay_out`, `set_number` and `set_text` with their clauses, and each make would still prove them.
     fn put_number(&mut self, i: usize, x: u32) -> Result<(), Refusal> {
-        if i >= self.len() {
-            return Err(Refusal::NoEntry);
-        }
+        self.slot(i)?;
         self.set_number(i, x);
         Ok(())
     }
 
     fn put_text(&mut self, i: usize, bytes: &[u8]) -> Result<(), Refusal> {
-        if i >= self.len() {
-            return Err(Refusal::NoEntry);
-        }
+        self.slot(i)?;
         if bytes.len() > LONGEST {
             return Err(Refusal::TextTooLong);
         }
@@ -192,36 +178,11 @@ impl Shelf for Packed {
         Ok(())
     }
 
-    fn kind(&self, i: usize) -> Result<u8, Refusal> {
-        if i >= self.len() {
-            return Err(Refusal::NoEntry);
-        }
-        match self.held(i) {
-            Held::Number(_) => Ok(NUMBER),
-            Held::Text(_) => Ok(TEXT),
-        }
-    }
-
-    fn number(&self, i: usize) -> Result<u32, Refusal> {
-        if i >= self.len() {
-            return Err(Refusal::NoEntry);
-        }
-        match self.held(i) {
-            Held::Number(x) => Ok(x),
-            Held::Text(_) => Err(Refusal::OtherKind),
-        }
-    }
-
-    fn text(&self, i: usize, line: &mut [u8; LONGEST]) -> Result<usize, Refusal> {
-        if i >= self.len() {
-            return Err(Refusal::NoEntry);
-        }
-        match self.held(i) {
-            Held::Number(_) => Err(Refusal::OtherKind),
-            Held::Text(bytes) => {
-                shelf::fill_line(line, bytes);
-                Ok(bytes.len())
-            }
+    fn held(&self, i: usize) -> Result<Held<'_>, Refusal> {
+        let Slot { entry, start } = self.slot(i)?;
+        match entry {
+            Entry::Number(x) => Ok(Held::Number(x)),
+            Entry::Text(len) => Ok(Held::Text(&self.pool[start..start + len])),
         }
     }
 

@@ -1,17 +1,16 @@
 // How a course goes on.
-ghost use Rattle.std.specs.Prelude.{◌≡◌, ◌+◌, ◌-◌, ◌<◌, ◌≤◌, true, [], ◌∷◌, reverse, length, take, slice_index};
-ghost use Rattle.nodes.specs.Limits.{deepest_nest};
-ghost use Rattle.nodes.specs.Nodes.{node_at, view_at};
+ghost use Rattle.std.specs.Prelude.{◌≡◌, ◌-◌, [], ◌∷◌, length};
+ghost use Rattle.nodes.specs.Nodes.{view_at};
 ghost use Rattle.deck.specs.Sheets.{sheet_of};
-ghost use Rattle.semantics.specs.Semantics.{settle};
+ghost use Rattle.semantics.specs.Semantics.{full};
 ghost use Rattle.semantics.specs.declared.status.Status.TheVariants.{Ready, Stopped};
 ghost use Rattle.semantics.specs.declared.status.Cause.TheVariants.{TooFewSlots};
-ghost use Rattle.player.specs.Stack.{most_series, reaches};
-ghost use Rattle.player.specs.Of.{todo_of, behind, Moved, status_for, Comes};
+ghost use Rattle.player.specs.Stack.{Settles};
+ghost use Rattle.player.specs.Of.{todo_of, behind, Stands, Moved, Fits, Enters, Comes};
 
 use crate::course::{Coming, Course, DEPTH};
+use arrayvec::ArrayVec;
 use deck::deck::Deck;
-use nodes::node::SERIES;
 use nodes::view::View;
 use semantics::status::{Cause, Status};
 
@@ -29,60 +28,45 @@ fn last_node(deck: &Deck) -> u16
     (deck.count() - 1) as u16
 }
 
-// How many series are left once the empty ones in front are dropped.
-fn settle(deck: &Deck, todo: &[u16; DEPTH], len: usize) -> usize
-    requires { len ≤ most_series }
-    ensures few { result ≤ len }
-    ensures list { reverse (take result todo.now) ≡ settle (sheet_of deck.now) (reverse (take len todo.now)) }
-    ensures full { 0 < result → (node_at (sheet_of deck.now).nodes (slice_index todo.now (result - 1))).kind ≡ 10 }
+// Whether node i is a series with a statement.
+fn is_full(deck: &Deck, i: u16) -> bool
+    ensures { result ≡ full (view_at (sheet_of deck.now).nodes i) }
 {
-    let mut r = len;
-    while r > 0 {
-        if deck.node_at(todo[r - 1]).kind == SERIES {
-            return r;
-        }
-        r -= 1;
-    }
-    0
+    matches!(view_at(deck, i), View::Series { .. })
 }
 
-fn status_for(len: usize) -> Status
-    ensures { result ≡ status_for len }
+// Drops the empty series in front, and answers how a course with the others stands.
+fn settle(deck: &Deck, todo: &mut ArrayVec<u16, DEPTH>) -> Status
+    ensures { Settles (sheet_of deck.now) todo.old.items todo.new.items result }
 {
-    if len == 0 {
-        Status::Ended
-    } else {
-        Status::Ready
+    while let Some(&front) = todo.last() {
+        if is_full(deck, front) {
+            return Status::Ready;
+        }
+        todo.pop();
     }
+    Status::Ended
 }
 
 impl Course {
     pub(crate) fn begin(deck: Deck) -> Course
-        ensures deck { result.deck ≡ deck }
-        ensures moved { Moved (sheet_of deck) result ((length (sheet_of deck).nodes - 1) ∷ []) }
+        ensures { Moved deck result ((length (sheet_of deck).nodes - 1) ∷ []) }
     {
-        let mut todo = [0; DEPTH];
-        todo[0] = last_node(&deck);
-        let len = settle(&deck, &todo, 1);
-        let status = status_for(len);
-        Course {
+        let mut course = Course {
             deck,
-            todo,
-            len,
-            status,
-        }
+            todo: ArrayVec::new(),
+            status: Status::Ended,
+        };
+        course.restart();
+        course
     }
 
     pub(crate) fn restart(&mut self)
-        ensures deck { self.new.deck ≡ self.old.deck }
-        ensures moved { Moved (sheet_of self.old.deck) self.new ((length (sheet_of self.old.deck).nodes - 1) ∷ []) }
+        ensures { Moved self.old.deck self.new ((length (sheet_of self.old.deck).nodes - 1) ∷ []) }
     {
-        let mut todo = [0; DEPTH];
-        todo[0] = last_node(&self.deck);
-        let len = settle(&self.deck, &todo, 1);
-        self.todo = todo;
-        self.len = len;
-        self.status = status_for(len);
+        self.todo.clear();
+        self.todo.push(last_node(&self.deck));
+        self.status = settle(&self.deck, &mut self.todo);
     }
 
     // What a ready course has in front.
@@ -90,7 +74,7 @@ impl Course {
         requires { self.now.status ≡ Ready }
         ensures { Comes self.now result }
     {
-        let front = self.todo[self.len - 1];
+        let front = self.todo[self.todo.len() - 1];
         let series = self.deck.node_at(front);
         Coming {
             front,
@@ -101,12 +85,11 @@ impl Course {
     }
 
     // Stops for want of slots.
+    // Stays: node 0, since a stop always tells a node, and the slots belong to none.
     pub(crate) fn lack_slots(&mut self)
-        ensures deck { self.new.deck ≡ self.old.deck }
-        ensures todo { todo_of self.new ≡ [] }
-        ensures status { self.new.status ≡ Stopped TooFewSlots 0 }
+        ensures { Stands self.old.deck self.new [] (Stopped TooFewSlots 0) }
     {
-        self.len = 0;
+        self.todo.clear();
         self.status = Status::Stopped {
             cause: Cause::TooFewSlots,
             node: 0,
@@ -115,49 +98,35 @@ impl Course {
 
     // Goes on with `rest` in place of the front series.
     pub(crate) fn go_on(&mut self, rest: u16)
-        requires ready { self.old.status ≡ Ready }
-        requires fits { reaches (sheet_of self.old.deck) rest (deepest_nest - (self.old.len - 1)) ≡ true }
-        ensures deck { self.new.deck ≡ self.old.deck }
-        ensures moved { Moved (sheet_of self.old.deck) self.new (rest ∷ behind self.old) }
+        requires { Fits self.old rest }
+        ensures { Moved self.old.deck self.new (rest ∷ behind self.old) }
     {
-        self.todo[self.len - 1] = rest;
-        let len = settle(&self.deck, &self.todo, self.len);
-        self.len = len;
-        self.status = status_for(len);
+        self.todo.pop();
+        self.todo.push(rest);
+        self.status = settle(&self.deck, &mut self.todo);
     }
 
     // Goes on with `body`, and then with `under` in place of the front series.
     pub(crate) fn enter(&mut self, under: u16, body: u16)
-        requires ready { self.old.status ≡ Ready }
-        requires deep { self.old.len ≤ deepest_nest }
-        requires fits { reaches (sheet_of self.old.deck) under (deepest_nest - (self.old.len - 1)) ≡ true }
-        requires inner { reaches (sheet_of self.old.deck) body (deepest_nest - self.old.len) ≡ true }
-        ensures deck { self.new.deck ≡ self.old.deck }
-        ensures moved { Moved (sheet_of self.old.deck) self.new (body ∷ under ∷ behind self.old) }
+        requires { Enters self.old under body }
+        ensures { Moved self.old.deck self.new (body ∷ under ∷ behind self.old) }
     {
-        self.todo[self.len - 1] = under;
-        self.todo[self.len] = body;
-        let len = settle(&self.deck, &self.todo, self.len + 1);
-        self.len = len;
-        self.status = status_for(len);
+        self.todo.pop();
+        self.todo.push(under);
+        self.todo.push(body);
+        self.status = settle(&self.deck, &mut self.todo);
     }
 
     // Goes on with the body of a while, and then with its series again.
     pub(crate) fn again(&mut self, coming: Coming, body: u16)
-        requires ready { self.old.status ≡ Ready }
-        requires deep { self.old.len ≤ deepest_nest }
-        requires fits { reaches (sheet_of self.old.deck) coming.front (deepest_nest - (self.old.len - 1)) ≡ true }
-        requires inner { reaches (sheet_of self.old.deck) body (deepest_nest - self.old.len) ≡ true }
-        ensures deck { self.new.deck ≡ self.old.deck }
-        ensures moved { Moved (sheet_of self.old.deck) self.new (body ∷ coming.front ∷ behind self.old) }
+        requires { Enters self.old coming.front body }
+        ensures { Moved self.old.deck self.new (body ∷ coming.front ∷ behind self.old) }
     {
         self.enter(coming.front, body)
     }
 
     pub(crate) fn stop(&mut self, cause: Cause, node: u16)
-        ensures deck { self.new.deck ≡ self.old.deck }
-        ensures todo { todo_of self.new ≡ todo_of self.old }
-        ensures status { self.new.status ≡ Stopped cause node }
+        ensures { Stands self.old.deck self.new (todo_of self.old) (Stopped cause node) }
     {
         self.status = Status::Stopped { cause, node };
     }

@@ -1,15 +1,14 @@
 // What a player does on each call.
-ghost use Rattle.std.specs.Prelude.{◌≡◌, ◌<◌, ◌≤◌};
+ghost use Rattle.std.specs.Prelude.{◌≡◌, ◌≤◌, ◌↔◌, IsTrue};
 ghost use Rattle.nodes.specs.declared.view.View.TheVariants.{Assign, If, While};
 ghost use Rattle.deck.specs.Sheets.{sheet_of};
-ghost use Rattle.semantics.specs.Semantics.{beat, run, beats, made_by};
+ghost use Rattle.semantics.specs.Semantics.{made_by};
 ghost use Rattle.semantics.specs.Next.{next};
-ghost use Rattle.semantics.specs.Calls.{started, after, answer, looked, look_at};
+ghost use Rattle.semantics.specs.Calls.{looked, look_at};
 ghost use Rattle.semantics.specs.declared.status.Status.TheVariants.{Ready};
 ghost use Rattle.semantics.specs.declared.call.Answer.TheVariants.{Looked};
 ghost use Rattle.player.specs.Evaluation.{branch_of};
-ghost use Rattle.player.specs.Opening.{enough_slots};
-ghost use Rattle.player.specs.Of.{state_of, deck_of, Comes};
+ghost use Rattle.player.specs.Of.{state_of, deck_of, Faces, started_on, Plays, GoesTo, beat_of, run_of, beats_of, after_call, answer_to};
 
 use crate::course::{Coming, Course};
 use crate::eval::{amount_at, evaluate, seen};
@@ -29,30 +28,22 @@ fn chosen(x: u32, then: u16, otherwise: u16) -> u16
     if x == 0 { otherwise } else { then }
 }
 
-// How many beats a ready player made that then stands so: one, unless it stopped.
-fn made_by(status: Status) -> u16
-    ensures { result ≡ made_by Ready status }
+// Whether a ready player that then stands so made its beat: it did, unless it stopped.
+fn is_made(status: Status) -> bool
+    ensures { IsTrue result ↔ (made_by Ready status ≡ 1) }
 {
-    match status {
-        Status::Ready => 1,
-        Status::Ended => 1,
-        Status::Stopped { cause: _, node: _ } => 0,
-    }
+    !matches!(status, Status::Stopped { .. })
 }
 
 impl<S: Shelf> Player<S> {
     // Start: opens the shelf for the deck's variables and goes to the beginning.
     pub fn start(deck: Deck, mut shelf: S) -> Player<S>
-        ensures deck { deck_of result ≡ deck }
-        ensures capacity { S.Shelf.capacity result.shelf ≡ S.Shelf.capacity shelf }
-        ensures slots { S.Shelf.slots result.shelf ≡ S.Shelf.slots shelf }
-        ensures state { state_of S.Shelf.values result ≡ started (enough_slots (S.Shelf.slots shelf) (sheet_of deck)) (sheet_of deck) (S.Shelf.values shelf) }
+        ensures { Plays S.Shelf deck shelf result (started_on S.Shelf deck shelf) }
     {
         let opened = open(&mut shelf, &deck);
         let mut course = Course::begin(deck);
-        match opened {
-            Ok(_) => {}
-            Err(_) => course.lack_slots(),
+        if opened.is_err() {
+            course.lack_slots();
         }
         Player {
             course,
@@ -70,21 +61,13 @@ impl<S: Shelf> Player<S> {
             shelf,
             line: _,
         } = self;
-        let Course {
-            deck,
-            todo: _,
-            len: _,
-            status: _,
-        } = course;
+        let Course { deck, .. } = course;
         (deck, shelf)
     }
 
     // Rewind: does what Start did again.
     pub fn rewind(&mut self) -> Status
-        ensures deck { deck_of self.new ≡ deck_of self.old }
-        ensures capacity { S.Shelf.capacity self.new.shelf ≡ S.Shelf.capacity self.old.shelf }
-        ensures slots { S.Shelf.slots self.new.shelf ≡ S.Shelf.slots self.old.shelf }
-        ensures state { state_of S.Shelf.values self.new ≡ started (enough_slots (S.Shelf.slots self.old.shelf) (sheet_of (deck_of self.old))) (sheet_of (deck_of self.old)) (S.Shelf.values self.old.shelf) }
+        ensures goes { GoesTo S.Shelf self.old self.new (started_on S.Shelf (deck_of self.old) self.old.shelf) }
         ensures says { result ≡ self.new.course.status }
     {
         match open(&mut self.shelf, &self.course.deck) {
@@ -95,14 +78,10 @@ impl<S: Shelf> Player<S> {
     }
 
     // An assignment puts its value on the shelf.
+    // Stays: here and in the two below the cause is put down where it is met, since the contract is the beat as a whole; with `?` each would need a second one, by its answer.
     fn assign(&mut self, coming: Coming, target: u16, value: u16)
-        requires ready { self.old.course.status ≡ Ready }
-        requires comes { Comes self.old.course coming }
-        requires is { coming.statement ≡ Assign target value }
-        ensures deck { deck_of self.new ≡ deck_of self.old }
-        ensures capacity { S.Shelf.capacity self.new.shelf ≡ S.Shelf.capacity self.old.shelf }
-        ensures slots { S.Shelf.slots self.new.shelf ≡ S.Shelf.slots self.old.shelf }
-        ensures state { state_of S.Shelf.values self.new ≡ beat (sheet_of (deck_of self.old)) (S.Shelf.capacity self.old.shelf) (state_of S.Shelf.values self.old) }
+        requires { Faces self.old.course coming (Assign target value) }
+        ensures { GoesTo S.Shelf self.old self.new (beat_of S.Shelf self.old) }
     {
         let to = self.course.deck.node_at(target).c as usize;
         match evaluate(&self.shelf, &self.course.deck, value, &mut self.line) {
@@ -116,13 +95,8 @@ impl<S: Shelf> Player<S> {
 
     // An if goes on with one of its series.
     fn branch(&mut self, coming: Coming, test: u16, then: u16, otherwise: u16)
-        requires ready { self.old.course.status ≡ Ready }
-        requires comes { Comes self.old.course coming }
-        requires is { coming.statement ≡ If test then otherwise }
-        ensures deck { deck_of self.new ≡ deck_of self.old }
-        ensures capacity { S.Shelf.capacity self.new.shelf ≡ S.Shelf.capacity self.old.shelf }
-        ensures slots { S.Shelf.slots self.new.shelf ≡ S.Shelf.slots self.old.shelf }
-        ensures state { state_of S.Shelf.values self.new ≡ beat (sheet_of (deck_of self.old)) (S.Shelf.capacity self.old.shelf) (state_of S.Shelf.values self.old) }
+        requires { Faces self.old.course coming (If test then otherwise) }
+        ensures { GoesTo S.Shelf self.old self.new (beat_of S.Shelf self.old) }
     {
         match amount_at(&self.shelf, &self.course.deck, test) {
             Err(cause) => self.course.stop(cause, coming.at),
@@ -132,13 +106,8 @@ impl<S: Shelf> Player<S> {
 
     // A while goes on with its body and then itself, or past itself.
     fn turn(&mut self, coming: Coming, test: u16, body: u16)
-        requires ready { self.old.course.status ≡ Ready }
-        requires comes { Comes self.old.course coming }
-        requires is { coming.statement ≡ While test body }
-        ensures deck { deck_of self.new ≡ deck_of self.old }
-        ensures capacity { S.Shelf.capacity self.new.shelf ≡ S.Shelf.capacity self.old.shelf }
-        ensures slots { S.Shelf.slots self.new.shelf ≡ S.Shelf.slots self.old.shelf }
-        ensures state { state_of S.Shelf.values self.new ≡ beat (sheet_of (deck_of self.old)) (S.Shelf.capacity self.old.shelf) (state_of S.Shelf.values self.old) }
+        requires { Faces self.old.course coming (While test body) }
+        ensures { GoesTo S.Shelf self.old self.new (beat_of S.Shelf self.old) }
     {
         match amount_at(&self.shelf, &self.course.deck, test) {
             Err(cause) => self.course.stop(cause, coming.at),
@@ -155,10 +124,7 @@ impl<S: Shelf> Player<S> {
     // One granted beat of a ready player; where it stops, none is made.
     fn beat(&mut self)
         requires { self.old.course.status ≡ Ready }
-        ensures deck { deck_of self.new ≡ deck_of self.old }
-        ensures capacity { S.Shelf.capacity self.new.shelf ≡ S.Shelf.capacity self.old.shelf }
-        ensures slots { S.Shelf.slots self.new.shelf ≡ S.Shelf.slots self.old.shelf }
-        ensures state { state_of S.Shelf.values self.new ≡ beat (sheet_of (deck_of self.old)) (S.Shelf.capacity self.old.shelf) (state_of S.Shelf.values self.old) }
+        ensures { GoesTo S.Shelf self.old self.new (beat_of S.Shelf self.old) }
     {
         let coming = self.course.coming();
         match coming.statement {
@@ -175,36 +141,26 @@ impl<S: Shelf> Player<S> {
 
     // Makes beats while the player is ready and grant is left, and answers how many.
     fn run(&mut self, grant: u16) -> u16
-        ensures deck { deck_of self.new ≡ deck_of self.old }
-        ensures capacity { S.Shelf.capacity self.new.shelf ≡ S.Shelf.capacity self.old.shelf }
-        ensures slots { S.Shelf.slots self.new.shelf ≡ S.Shelf.slots self.old.shelf }
-        ensures state { state_of S.Shelf.values self.new ≡ run (sheet_of (deck_of self.old)) (S.Shelf.capacity self.old.shelf) grant (state_of S.Shelf.values self.old) }
-        ensures count { result ≡ beats (sheet_of (deck_of self.old)) (S.Shelf.capacity self.old.shelf) grant (state_of S.Shelf.values self.old) }
+        ensures goes { GoesTo S.Shelf self.old self.new (run_of S.Shelf grant self.old) }
+        ensures count { result ≡ beats_of S.Shelf grant self.old }
         ensures bound { result ≤ grant }
     {
-        let mut made = 0;
-        while made < grant {
+        for made in 0..grant {
             match self.course.status {
-                Status::Ready => {
-                    self.beat();
-                    if made_by(self.course.status) == 0 {
-                        return made;
-                    }
-                    made += 1;
-                }
+                Status::Ready => self.beat(),
                 _ => return made,
             }
+            if !is_made(self.course.status) {
+                return made;
+            }
         }
-        made
+        grant
     }
 
     // Play: makes the beats that are granted while the player is ready, and answers how many and how it then stands.
     pub fn play(&mut self, grant: u16) -> Progress
-        ensures deck { deck_of self.new ≡ deck_of self.old }
-        ensures capacity { S.Shelf.capacity self.new.shelf ≡ S.Shelf.capacity self.old.shelf }
-        ensures slots { S.Shelf.slots self.new.shelf ≡ S.Shelf.slots self.old.shelf }
-        ensures state { state_of S.Shelf.values self.new ≡ run (sheet_of (deck_of self.old)) (S.Shelf.capacity self.old.shelf) grant (state_of S.Shelf.values self.old) }
-        ensures count { result.beats ≡ beats (sheet_of (deck_of self.old)) (S.Shelf.capacity self.old.shelf) grant (state_of S.Shelf.values self.old) }
+        ensures goes { GoesTo S.Shelf self.old self.new (run_of S.Shelf grant self.old) }
+        ensures count { result.beats ≡ beats_of S.Shelf grant self.old }
         ensures bound { result.beats ≤ grant }
         ensures says { result.status ≡ self.new.course.status }
     {
@@ -218,10 +174,7 @@ impl<S: Shelf> Player<S> {
     fn show(&self, of: usize, line: &mut [u8; LONGEST]) -> Result<Outcome, LookRefusal>
         ensures { Looked result line.new ≡ looked (S.Shelf.values self.now.shelf) of line.old }
     {
-        match seen(&self.shelf, of, line) {
-            Ok(value) => Ok(value),
-            Err(why) => Err(LookRefusal::Shelf(why)),
-        }
+        seen(&self.shelf, of, line).map_err(LookRefusal::Shelf)
     }
 
     // Look: what variable `of` holds; a text stands in the line.
@@ -229,10 +182,10 @@ impl<S: Shelf> Player<S> {
         ensures { Looked result line.new ≡ look_at self.now.course.status (S.Shelf.values self.now.shelf) of line.old }
     {
         match self.course.status {
-            Status::Stopped { cause, node: _ } => match cause {
-                Cause::TooFewSlots => Err(LookRefusal::TooFewSlots),
-                _ => self.show(of, line),
-            },
+            Status::Stopped {
+                cause: Cause::TooFewSlots,
+                ..
+            } => Err(LookRefusal::TooFewSlots),
             _ => self.show(of, line),
         }
     }
@@ -247,26 +200,24 @@ impl<S: Shelf> Player<S> {
         }
     }
 
-    fn answer_look(&self, of: usize, line: [u8; LONGEST]) -> Answer
+    fn answer_look(&self, of: usize, mut line: [u8; LONGEST]) -> Answer
         ensures { result ≡ look_at self.now.course.status (S.Shelf.values self.now.shelf) of line }
     {
-        let mut line = line;
         let seen = self.look(of, &mut line);
         Answer::Looked { seen, line }
     }
 
     // What is done on a call, by the status and the call together.
+    // Stays: a match, since that is the form that is asked for.
     pub fn call(&mut self, call: Call) -> Answer
-        ensures deck { deck_of self.new ≡ deck_of self.old }
-        ensures capacity { S.Shelf.capacity self.new.shelf ≡ S.Shelf.capacity self.old.shelf }
-        ensures slots { S.Shelf.slots self.new.shelf ≡ S.Shelf.slots self.old.shelf }
-        ensures state { state_of S.Shelf.values self.new ≡ after (enough_slots (S.Shelf.slots self.old.shelf) (sheet_of (deck_of self.old))) (sheet_of (deck_of self.old)) (S.Shelf.capacity self.old.shelf) call (state_of S.Shelf.values self.old) }
-        ensures says { result ≡ answer (enough_slots (S.Shelf.slots self.old.shelf) (sheet_of (deck_of self.old))) (sheet_of (deck_of self.old)) (S.Shelf.capacity self.old.shelf) call (state_of S.Shelf.values self.old) }
+        ensures goes { GoesTo S.Shelf self.old self.new (after_call S.Shelf call self.old) }
+        ensures says { result ≡ answer_to S.Shelf call self.old }
     {
         match (self.course.status, call) {
             (_, Call::Look { of, line }) => self.answer_look(of, line),
             (_, Call::Rewind) => Answer::Rewound(self.rewind()),
             (Status::Ready, Call::Play(grant)) => Answer::Played(self.play(grant)),
+            // Stays: two arms, since one for every other status is not proved: there it is not known that the player is not ready.
             (Status::Ended, Call::Play(_)) => Answer::Played(Progress {
                 beats: 0,
                 status: Status::Ended,

@@ -1,16 +1,20 @@
-ghost use Rattle.std.specs.Prelude.{◌≡◌, ◌*◌, ◌<◌, ◌≤◌, [], map, length, vec_len, slice_index_or, slice_set};
+ghost use Rattle.std.specs.Prelude.{◌≡◌, ◌*◌, ◌<◌, ◌≤◌, [], map, length, vec_len, slice_index_or, slice_set, IfOk, IfErr, OnOk};
+ghost use Rattle.arrayvec.specs.ArrayVec.{array_vec_len};
+ghost use Rattle.shelf.specs.declared.entry.Entry.TheVariants.{Number};
+ghost use Rattle.shelf.specs.declared.refusal.Refusal.TheVariants.{NoEntry};
 ghost use Rattle.shelf.specs.Limits.{longest};
-ghost use Rattle.shelf.specs.Value.{number, text, total, bytes_of};
+ghost use Rattle.shelf.specs.Value.{number, text, total};
 ghost use Rattle.shelf.specs.Calls.{fresh};
-ghost use Rattle.shelf.specs.Entries.{meant};
 ghost use Rattle.rows.specs.Slots.{slots_of};
 ghost use Rattle.rows.specs.Model.{list_of};
 ghost use Rattle.rows.specs.Kept.{rows_laws};
 
 use super::Rows;
+use arrayvec::ArrayVec;
 use shelf::entry::{Entry, Held};
-use shelf::{LONGEST, NUMBER, Refusal, SLOTS, Shelf, TEXT};
+use shelf::{LONGEST, Refusal, SLOTS, Shelf};
 
+// Stays: `new`, `empty` and `into_memory` are like those of `packed`, but promise slots where those promise a capacity.
 impl Rows {
     // A shelf with no entry, on this memory.
     pub fn new(memory: Vec<u8>) -> Rows
@@ -31,8 +35,7 @@ impl Rows {
     {
         Rows {
             memory,
-            entries: [Entry::Number(0); SLOTS],
-            count: 0,
+            entries: ArrayVec::new(),
             slots,
         }
     }
@@ -45,34 +48,19 @@ impl Rows {
         let Rows {
             memory,
             entries: _,
-            count: _,
             slots: _,
         } = self;
         memory
     }
 
-    // How many entries there are.
-    fn len(&self) -> usize
-        ensures length { result ≡ length (list_of self.now) }
-        ensures count { result ≡ self.now.count }
+    // The entry at i.
+    #[tactic(auto, using(crate::specs::Kept::length_list))]
+    fn entry(&self, i: usize) -> Result<Entry, Refusal>
+        ensures entry { IfOk result (λ e. slice_index_or self.now.entries.items i (Number 0) ≡ e) }
+        ensures inside { OnOk result ((i < array_vec_len self.now.entries) × (i < length (list_of self.now))) }
+        ensures none { IfErr result (λ why. (why ≡ NoEntry) × (length (list_of self.now) ≤ i)) }
     {
-        self.count
-    }
-
-    // The value at i.
-    fn held(&self, i: usize) -> Held<'_>
-        requires { i < self.now.count }
-        ensures is { slice_index_or (list_of self.now) i (number 0) ≡ meant result }
-        ensures short { length (bytes_of (meant result)) ≤ longest }
-    {
-        let entry = self.entries[i];
-        match entry {
-            Entry::Number(x) => Held::Number(x),
-            Entry::Text(len) => {
-                let at = LONGEST * i;
-                Held::Text(&self.memory[at..at + len])
-            }
-        }
+        self.entries.get(i).copied().ok_or(Refusal::NoEntry)
     }
 
     // Makes the list anew.
@@ -82,12 +70,11 @@ impl Rows {
         ensures slots { self.new.slots ≡ self.old.slots }
     {
         self.entries = shelf::entry::table_for(kinds);
-        self.count = kinds.len();
     }
 
     // Sets the value at i to a number.
     fn set_number(&mut self, i: usize, x: u32)
-        requires { i < self.old.count }
+        requires { i < array_vec_len self.old.entries }
         ensures list { list_of self.new ≡ slice_set (list_of self.old) i (number x) }
         ensures slots { self.new.slots ≡ self.old.slots }
     {
@@ -96,7 +83,7 @@ impl Rows {
 
     // Sets the value at i to a text, for which its row is always long enough.
     fn set_text(&mut self, i: usize, bytes: &[u8])
-        requires inside { i < self.old.count }
+        requires inside { i < array_vec_len self.old.entries }
         requires short { length bytes.now ≤ longest }
         ensures list { list_of self.new ≡ slice_set (list_of self.old) i (text bytes.now) }
         ensures slots { self.new.slots ≡ self.old.slots }
@@ -123,18 +110,15 @@ impl Shelf for Rows {
         Ok(())
     }
 
+    // Stays: here and in `packed`, since a trait for both would have to name the entry, `lay_out`, `set_number` and `set_text` with their clauses, and each make would still prove them.
     fn put_number(&mut self, i: usize, x: u32) -> Result<(), Refusal> {
-        if i >= self.len() {
-            return Err(Refusal::NoEntry);
-        }
+        self.entry(i)?;
         self.set_number(i, x);
         Ok(())
     }
 
     fn put_text(&mut self, i: usize, bytes: &[u8]) -> Result<(), Refusal> {
-        if i >= self.len() {
-            return Err(Refusal::NoEntry);
-        }
+        self.entry(i)?;
         if bytes.len() > LONGEST {
             return Err(Refusal::TextTooLong);
         }
@@ -142,35 +126,12 @@ impl Shelf for Rows {
         Ok(())
     }
 
-    fn kind(&self, i: usize) -> Result<u8, Refusal> {
-        if i >= self.len() {
-            return Err(Refusal::NoEntry);
-        }
-        match self.held(i) {
-            Held::Number(_) => Ok(NUMBER),
-            Held::Text(_) => Ok(TEXT),
-        }
-    }
-
-    fn number(&self, i: usize) -> Result<u32, Refusal> {
-        if i >= self.len() {
-            return Err(Refusal::NoEntry);
-        }
-        match self.held(i) {
-            Held::Number(x) => Ok(x),
-            Held::Text(_) => Err(Refusal::OtherKind),
-        }
-    }
-
-    fn text(&self, i: usize, line: &mut [u8; LONGEST]) -> Result<usize, Refusal> {
-        if i >= self.len() {
-            return Err(Refusal::NoEntry);
-        }
-        match self.held(i) {
-            Held::Number(_) => Err(Refusal::OtherKind),
-            Held::Text(bytes) => {
-                shelf::fill_line(line, bytes);
-                Ok(bytes.len())
+    fn held(&self, i: usize) -> Result<Held<'_>, Refusal> {
+        match self.entry(i)? {
+            Entry::Number(x) => Ok(Held::Number(x)),
+            Entry::Text(len) => {
+                let at = LONGEST * i;
+                Ok(Held::Text(&self.memory[at..at + len]))
             }
         }
     }

@@ -1,9 +1,11 @@
-use Rattle.std.proofs.Common.{sym, ◌∙◌}
-use Rattle.spelling.proofs.Search.{found_more, found_all}
+use Rattle.std.proofs.Common.{rules, tests}
+use Rattle.std.proofs.lemmas.Iterator.{YieldsList-from_slice}
+use Rattle.std.proofs.lemmas.Iterator.Search.{find_from_yields_List}
+use Rattle.spelling.specs.Table.{spells}
+use Rattle.spelling.proofs.Search.{found_from}
 use Rattle.spelling.proofs.find.Goals as goal
 
-pub loop-e-preserved : goal.loop-e-preserved
-loop-e-preserved g c = c.loop-e.invariant ∙ found_more _ _ _ _ _ _ _ c.loop-e-test.true c.e-item.is c.seen-hit.ensures
-
 pub returns : goal.returns
-returns g c = sym (c.loop-e.invariant ∙ found_all _ _ _ _ _ c.loop-e-test.false)
+returns g c =
+    let h = find_from_yields_List (λ e. spells c.args.letters.now c.args.spelling.now e.place e.size) _ _ c.find.result c.find.ensures.ran (YieldsList-from_slice c.args.entries.now cc) (λ x b q k. search (rules, tests)) in
+    found_from c.args.letters.now c.args.spelling.now c.args.entries.now c.find.result c.map.result h c.map.ensures.cases (λ e v p. search (rules, tests))

@@ -1,41 +1,38 @@
-use Rattle.std.proofs.Common.{◌-◌, length, take, Ok, Err, sym, ap, ◌∙◌, arith, rules}
-use Rattle.nodes.specs.Nodes.{arrows_of, view_of, all_lead}
-use Rattle.deck.specs.Load.{judged, after, whole}
+use Rattle.std.proofs.Common.{◌≡◌, ◌+◌, length, Ok, Err, sym, ap, ◌∙◌, arith, rules}
+use Rattle.deck.specs.Load.{first, judged, after, whole}
 use Rattle.deck.specs.Rules.{taken}
-use Rattle.deck.proofs.Scan.{first_on, first_err}
-use Rattle.deck.proofs.Clean.{clean, names_given, by_count}
+use Rattle.deck.proofs.Scan.{first_on, refused_at}
+use Rattle.deck.proofs.Clean.{names_given, judged_on}
+use Rattle.std.specs.Result.{IsErrAnd}
 use Rattle.deck.proofs.check.judge.Goals as goal
 
-pub judge-requires : goal.judge-requires
-judge-requires c =
-    record {
-      names = names_given c.names_of-table.result c.args.nodes.now c.args.v (search rules) c.names_of-table.ensures;
-      tied = c.loop-i.invariant.0;
-      here = c.node_at-x.ensures;
-    }
+pub new-judgement-requires-clause-named : goal.new-judgement-requires-clause-named
+new-judgement-requires-clause-named c = (names_given c.deref.result.now c.args.nodes.now c.args.v (omega arith) (search rules)).1
 
-pub returns-in-Err : goal.returns-in-Err
-returns-in-Err c =
-    sym (ap (λ r. after r (whole c.args.nodes.now (taken c.args.nodes.now (length c.args.nodes.now)) (length c.args.nodes.now) c.args.v))
-    (c.loop-i.invariant.1 ∙ first_err (judged c.args.letters.now c.args.nodes.now c.args.v) (length c.args.nodes.now) c.loop-i.i c.in-Err.refusal c.loop-i-test.true
-    (by_count c.args.letters.now c.args.nodes.now (length (take (c.args.v - 0) c.names_of-table.result)) c.args.v c.loop-i.i (Err c.in-Err.refusal) (search rules) c.in-Err.ensures)))
+pub loop-i-init : goal.loop-i-init
+loop-i-init c = record {
+  sheet = c.new-judgement.ensures.sheet ∙ ap (λ k. record { letters = c.args.letters.now; nodes = c.args.nodes.now; variables = k }) (names_given c.deref.result.now c.args.nodes.now c.args.v (omega arith) (search rules)).0;
+  rows = ap length c.new-judgement.ensures.none;
+  passed = ap (λ k. first (judged c.args.letters.now c.args.nodes.now c.args.v) k 0) (omega arith);
+}
 
-pub mark-requires : goal.mark-requires
-mark-requires c =
-    let k = clean c.args.letters.now c.args.nodes.now c.args.v c.loop-i.i
-    (sym (by_count c.args.letters.now c.args.nodes.now (length (take (c.args.v - 0) c.names_of-table.result)) c.args.v c.loop-i.i (Ok tt) (search rules) c.in_default.ensures)) in
-    record {
-      few = omega arith;
-      tied = c.loop-i.invariant.0;
-      here = c.node_at-x.ensures;
-      led = ap (λ x. all_lead c.args.nodes.now c.loop-i.i (arrows_of (view_of x))) c.node_at-x.ensures ∙ k.led;
-      level = k.level_few;
-      nest = k.nest_few;
-    }
+pub returns-in_err-map_err : goal.returns-in_err-map_err
+returns-in_err-map_err c =
+    let i = c.loop-i.invariant in
+    let w = whole c.args.nodes.now (taken c.args.nodes.now (length c.args.nodes.now)) (length c.args.nodes.now) c.args.v in
+    let e : IsErrAnd c.judge.result (λ x. c.from_residual.result ≡ Err (record { refusal = x; node = c.loop-i.i-counter })) = search rules in
+    refused_at (judged c.args.letters.now c.args.nodes.now c.args.v) (length c.args.nodes.now) c.loop-i.i-counter c.judge.result w c.from_residual.result c.loop-i-test.true
+    (judged_on c.loop-i.judgement c.args.letters.now c.args.nodes.now c.args.v c.loop-i.i-counter c.judge.result i.sheet i.rows c.judge.ensures.says) e
+    ∙ sym (ap (λ r. after r w) i.passed)
 
 pub loop-i-preserved : goal.loop-i-preserved
-loop-i-preserved c = (
-  c.mark.ensures,
-  c.loop-i.invariant.1 ∙ first_on (judged c.args.letters.now c.args.nodes.now c.args.v) (length c.args.nodes.now) c.loop-i.i c.loop-i-test.true
-      (by_count c.args.letters.now c.args.nodes.now (length (take (c.args.v - 0) c.names_of-table.result)) c.args.v c.loop-i.i (Ok tt) (search rules) c.in_default.ensures),
-)
+loop-i-preserved c =
+    let i = c.loop-i.invariant in
+    let e : c.judge.result ≡ Ok tt = search rules in
+    let n : length c.judge.new.self.rows.items ≡ length c.loop-i.judgement.rows.items + 1 = search rules in
+    record {
+      sheet = c.judge.ensures.sheet ∙ i.sheet;
+      rows = omega arith;
+      passed = i.passed ∙ first_on (judged c.args.letters.now c.args.nodes.now c.args.v) (length c.args.nodes.now) c.loop-i.i-counter c.loop-i-test.true
+          (judged_on c.loop-i.judgement c.args.letters.now c.args.nodes.now c.args.v c.loop-i.i-counter (Ok tt) i.sheet i.rows (sym e ∙ c.judge.ensures.says));
+    }

@@ -1,20 +1,9 @@
-use Rattle.std.proofs.Common.{◌<◌, refl, ap, arith}
-use Rattle.deck.specs.Sheets.{sheet_of}
-use Rattle.player.proofs.Opening.{declaring_more, declared_all, kind_small}
+use Rattle.std.proofs.Common.{refl, arith}
+use Rattle.player.proofs.Opening.{kind_small, kinds_more}
 use Rattle.player.proofs.open.declared.Goals as goal
 
-pub loop-i-init : goal.loop-i-init
-loop-i-init c = record { few = omega arith; wide = refl; same = refl }
+pub overflow_cast-node : goal.overflow_cast-node
+overflow_cast-node c = let k = kind_small c.args.deck.now c.nodes.result.now c.variables.result c.loop-node.node-index c.nodes.ensures c.variables.ensures c.loop-node-test.true in omega arith
 
-pub overflow_cast-kinds : goal.overflow_cast-kinds
-overflow_cast-kinds c =
-    let h : c.loop-i.i < (sheet_of c.args.deck.now).variables = omega arith in
-    let k = kind_small c.args.deck.now c.loop-i.i h in
-    let e = ap (λ x. x.c) c.node_at.ensures in
-    omega arith
-
-pub loop-i-preserved : goal.loop-i-preserved
-loop-i-preserved c = declaring_more c.args.deck.now c.loop-i.kinds c.loop-i.i _ c.loop-i.invariant (omega arith) (ap (λ x. x.c) c.node_at.ensures)
-
-pub returns : goal.returns
-returns c = declared_all c.args.deck.now c.loop-i.kinds c.loop-i.i c.loop-i.invariant (omega arith)
+pub loop-node-preserved : goal.loop-node-preserved
+loop-node-preserved c = kinds_more c.args.deck.now c.nodes.result.now c.variables.result c.loop-node.node-index c.nodes.ensures c.variables.ensures c.loop-node-test.true c.loop-node.kinds.items c.push.new.self.items _ c.loop-node.invariant refl c.push.ensures.items

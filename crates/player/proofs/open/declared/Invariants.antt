@@ -1,10 +1,7 @@
-use Rattle.std.proofs.Common.{◌-◌}
+use Rattle.std.proofs.Common.{◌≡◌, take}
+use Rattle.nodes.specs.Nodes.{kinds}
 use Rattle.deck.specs.Sheets.{sheet_of}
-use Rattle.player.proofs.Opening.{Declaring}
 use Rattle.player.proofs.open.declared.Given as goal
 
-abbrev pub invariant-loop-i : goal.invariant-loop-i
-invariant-loop-i l = Declaring l.deck l.kinds l.i
-
-abbrev pub decreases-loop-i : goal.decreases-loop-i
-decreases-loop-i l = (sheet_of l.deck).variables - l.i
+abbrev pub invariant-loop-node : goal.invariant-loop-node
+invariant-loop-node l = l.kinds.items ≡ take l.node-index (kinds (sheet_of l.deck))

@@ -1,21 +1,20 @@
-use Rattle.std.proofs.Common.{refl, arith}
-use Rattle.shelf.specs.Limits.{most_slots}
-use Rattle.shelf.proofs.Entries.{within_none}
+use Rattle.std.proofs.Common.{length, sym, refl, ap, subst, arith}
+use Rattle.shelf.specs.Entries.{Within}
+use Rattle.packed.specs.Slots.{entries_of}
 use Rattle.packed.proofs.Means.{new_list}
 use Rattle.packed.proofs.packed.Packed.empty.Goals as goal
 
 pub invariant_of-result : goal.invariant_of-result
 invariant_of-result c =
+    let none = c.new.ensures in
     record {
-      sized = refl;
-      ranged = refl;
-      few = omega arith;
-      within = within_none most_slots;
-      placed = λ k h. absurd (omega arith);
-      filled = refl;
+      few = omega (arith, ap length none);
+      within = subst (λ slots. Within (entries_of slots)) (sym none) (λ k. refl);
+      placed = λ k h. absurd (omega (arith, ap length none));
+      filled = rw none;
       fits = omega arith;
       sure = c.requires;
     }
 
 pub returns : goal.returns
-returns c = record { list = new_list _ refl; capacity = refl; memory = refl }
+returns c = record { list = new_list _ c.new.ensures; capacity = refl; memory = refl }

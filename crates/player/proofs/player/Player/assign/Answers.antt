@@ -12,7 +12,7 @@ returns-in-Ok-store g c =
       deck = c.go_on.ensures.deck;
       capacity = c.store.ensures.capacity_stays;
       slots = c.store.ensures.slots_stay;
-      state = go_assign c.args.self.now.course c.requires.ready c.args.coming c.requires.comes (g.S.Shelf.capacity c.args.self.now.shelf) (g.S.Shelf.values c.args.self.now.shelf) c.args.target c.args.value c.requires.is _ (ap (λ x. x.c) c.node_at-to.ensures) c.in-Ok.value c.evaluate.new.line c.in-Ok.ensures c.go_on.new.self _ c.store.ensures.list _ c.in-Ok-store.ensures.answer c.go_on.ensures.moved;
+      state = go_assign c.args.self.now.course c.requires.ready c.args.coming c.requires.comes (g.S.Shelf.capacity c.args.self.now.shelf) (g.S.Shelf.values c.args.self.now.shelf) c.args.target c.args.value c.requires.is _ (ap (λ x. x.c) c.node_at-to.ensures) c.in-Ok.value c.evaluate.new.line c.in-Ok.ensures c.go_on.new.self _ c.store.ensures.list _ c.in-Ok-store.ensures.answer c.go_on.ensures;
     }
 
 pub returns-in-Err-store : goal.returns-in-Err-store

@@ -8,7 +8,7 @@ amount_at-requires g c = λ e. let p = (c.requires.comes.body c.args.test c.args
 pub again-requires : goal.again-requires
 again-requires g c =
     let p = c.requires.comes.body c.args.test c.args.body c.requires.is in
-    record { ready = c.requires.ready; deep = p.1; fits = c.requires.comes.again; inner = p.2 }
+    record { under = record { ready = c.requires.ready; fits = c.requires.comes.again }; deep = p.1; inner = p.2 }
 
 pub returns-in-Err : goal.returns-in-Err
 returns-in-Err g c =
@@ -16,8 +16,8 @@ returns-in-Err g c =
 
 pub returns-then-x-eq0 : goal.returns-then-x-eq0
 returns-then-x-eq0 g c =
-    record { deck = c.go_on.ensures.deck; capacity = refl; slots = refl; state = past_while c.args.self.now.course c.requires.ready c.args.coming c.requires.comes (g.S.Shelf.capacity c.args.self.now.shelf) (g.S.Shelf.values c.args.self.now.shelf) c.args.test c.args.body c.requires.is c.go_on.new.self c.in-Ok.x c.in-Ok.ensures c.if-x-eq0.true c.go_on.ensures.moved }
+    record { deck = c.go_on.ensures.deck; capacity = refl; slots = refl; state = past_while c.args.self.now.course c.requires.ready c.args.coming c.requires.comes (g.S.Shelf.capacity c.args.self.now.shelf) (g.S.Shelf.values c.args.self.now.shelf) c.args.test c.args.body c.requires.is c.go_on.new.self c.in-Ok.x c.in-Ok.ensures c.if-x-eq0.true c.go_on.ensures }
 
 pub returns-else-x-eq0 : goal.returns-else-x-eq0
 returns-else-x-eq0 g c =
-    record { deck = c.again.ensures.deck; capacity = refl; slots = refl; state = into_while c.args.self.now.course c.requires.ready c.args.coming c.requires.comes (g.S.Shelf.capacity c.args.self.now.shelf) (g.S.Shelf.values c.args.self.now.shelf) c.args.test c.args.body c.requires.is c.again.new.self c.in-Ok.x c.in-Ok.ensures c.if-x-eq0.false c.again.ensures.moved }
+    record { deck = c.again.ensures.deck; capacity = refl; slots = refl; state = into_while c.args.self.now.course c.requires.ready c.args.coming c.requires.comes (g.S.Shelf.capacity c.args.self.now.shelf) (g.S.Shelf.values c.args.self.now.shelf) c.args.test c.args.body c.requires.is c.again.new.self c.in-Ok.x c.in-Ok.ensures c.if-x-eq0.false c.again.ensures }

@@ -1,6 +1,7 @@
 use Rattle.std.proofs.Common.{length, sym, refl, ap, ◌∙◌, subst, arith}
-use Rattle.shelf.specs.Entries.{Within}
-use Rattle.shelf.proofs.Entries.{within_table, length_table}
+use Rattle.std.proofs.lemmas.List.{length-map}
+use Rattle.shelf.specs.Entries.{Within, entry_for}
+use Rattle.shelf.proofs.Entries.{within_table, table_all}
 use Rattle.rows.proofs.Means.{opened_list}
 use Rattle.rows.proofs.rows.Rows.lay_out.Goals as goal
 
@@ -10,8 +11,7 @@ invariant_of-self c =
     let ks = c.args.kinds.now in
     let e = c.table_for-self.ensures in
     record {
-      sized = ap length e ∙ length_table ks (omega arith);
-      few = c.requires;
+      few = omega (arith, ap length (e ∙ table_all ks (omega arith)), length-map ks entry_for);
       rows = s.rows;
       within = subst Within (sym e) (within_table ks);
     }
@@ -19,6 +19,6 @@ invariant_of-self c =
 pub returns : goal.returns
 returns c =
     record {
-      list = opened_list _ c.args.kinds.now (omega arith) refl c.table_for-self.ensures;
+      list = opened_list _ c.args.kinds.now (omega arith) c.table_for-self.ensures;
       slots = refl;
     }

@@ -1,5 +1,5 @@
 // The questions on a deck.
-ghost use Rattle.std.specs.Prelude.{◌≡◌, length};
+ghost use Rattle.std.specs.Prelude.{◌≡◌, ◌<◌, length};
 ghost use Rattle.std.specs.Option.{option_map};
 ghost use Rattle.nodes.specs.Nodes.{node_at, node_told, kind_told};
 ghost use Rattle.nodes.specs.Kinds.{kind_number};
@@ -53,12 +53,20 @@ impl Deck {
         node_at(self.nodes(), i as usize)
     }
 
+    // The type of a variable that there is.
+    fn kind_at(&self, i: usize) -> Option<Kind>
+        requires { i < (sheet_of self.now).variables }
+        ensures { option_map kind_number result ≡ kind_told (sheet_of self.now) i }
+    {
+        Kind::try_from(node_at(self.nodes(), i).c).ok()
+    }
+
     // The type of variable i, where there is one.
     pub fn kind_of(&self, i: usize) -> Option<Kind>
         ensures { option_map kind_number result ≡ kind_told (sheet_of self.now) i }
     {
         if i < self.variables() {
-            Kind::try_from(node_at(self.nodes(), i).c).ok()
+            self.kind_at(i)
         } else {
             None
         }

@@ -6,18 +6,21 @@ use Rattle.std.proofs.lemmas.List.Sums.{sum_by_more, sum_by-take-drop, sum_by-ta
 use Rattle.std.proofs.lemmas.Bool.{cases_lt}
 use Rattle.arrayvec.specs.ArrayVec.{array_vec_len}
 use Rattle.shelf.specs.declared.entry.Entry.{Entry}
-use Rattle.shelf.specs.declared.entry.Entry.TheVariants.{Number}
-use Rattle.shelf.specs.Limits.{most_slots}
+use Rattle.shelf.specs.declared.entry.Entry.TheVariants.{Number, Text}
+use Rattle.shelf.specs.Limits.{most_slots, longest}
 use Rattle.shelf.specs.Value.{Value, number, text, total, bytes_of}
 use Rattle.shelf.specs.Calls.{fresh}
-use Rattle.shelf.specs.Entries.{extent, value_at, laid, table_for}
+use Rattle.shelf.specs.Entries.{extent, value_at, laid, too_large, entries_for}
 use Rattle.shelf.proofs.Values.{total_set}
-use Rattle.shelf.proofs.Entries.{get_d_laid, laid_set, laid_fresh, value_extent, value_same, table_all, sum_fresh}
+use Rattle.shelf.proofs.Entries.{get_d_laid, laid_set, laid_fresh, value_extent, value_same, extent_within, entries_all, sum_fresh}
 use Rattle.packed.specs.declared.packed.Packed.{Packed}
 use Rattle.packed.specs.Slots.{entry_of, entries_of, starts_of}
 use Rattle.packed.specs.Starts.{Placed}
 use Rattle.packed.specs.Model.{list_of}
 use Rattle.packed.specs.Kept.{length_list, total_list}
+
+pub text_short : (s : Packed) (i n : ℕ) → get_or (entries_of s.slots.items) i (Number 0) ≡ Text n → n ≤ longest
+text_short s i n e = extent_within (Text n) (ap too_large (sym e) ∙ s.within i)
 
 -- the entries
 abbrev pub in_use : Packed → List Entry
@@ -138,20 +141,20 @@ pub new_list : (s : Packed) → s.slots.items ≡ [] → list_of s ≡ []
 unfolding list_of
 new_list s e = ap (λ slots. laid extent (entries_of slots) (vec_items s.pool)) e
 
-pub opened_list : (t : Packed) (ks : List ℕ) → length ks ≤ most_slots → in_use t ≡ table_for ks → list_of t ≡ map fresh ks
+pub opened_list : (t : Packed) (ks : List ℕ) → length ks ≤ most_slots → in_use t ≡ entries_for ks → list_of t ≡ map fresh ks
 unfolding list_of
 opened_list t ks h e =
-    let a = table_all ks h in
+    let a = entries_all ks h in
     let b = laid_fresh extent ks (vec_items t.pool) in
     cc
 
-pub opened_used : (es : List Entry) (ks : List ℕ) → length ks ≤ most_slots → es ≡ table_for ks → 0 ≡ sum_by extent es
+pub opened_used : (es : List Entry) (ks : List ℕ) → length ks ≤ most_slots → es ≡ entries_for ks → 0 ≡ sum_by extent es
 opened_used es ks h e =
-    let a = table_all ks h in
+    let a = entries_all ks h in
     let b = sum_fresh ks in
     cc
 
-pub opened_placed : (es : List Entry) (starts : List ℕ) (ks : List ℕ) (n : ℕ) → length ks ≤ most_slots → es ≡ table_for ks → ((k : ℕ) → get_or starts k 0 ≡ 0) → Placed n es starts
+pub opened_placed : (es : List Entry) (starts : List ℕ) (ks : List ℕ) (n : ℕ) → length ks ≤ most_slots → es ≡ entries_for ks → ((k : ℕ) → get_or starts k 0 ≡ 0) → Placed n es starts
 opened_placed es starts ks n h e z k b =
     let u = opened_used es ks h e in
     let m = sum_by-take-le extent es k in

@@ -1,13 +1,13 @@
 // The slots of a packed shelf.
 ghost use Rattle.std.specs.Prelude.{◌≡◌, ℕ, ◌+◌, ◌-◌, ◌<◌, ◌≤◌, length, slice_index};
 ghost use Rattle.shelf.specs.Limits.{longest};
-ghost use Rattle.shelf.specs.Entries.{table_for};
+ghost use Rattle.shelf.specs.Entries.{entries_for};
 ghost use Rattle.packed.specs.Capacity.{most_bytes};
 ghost use Rattle.packed.specs.Slots.{entries_of, starts_of};
 
 use arrayvec::ArrayVec;
 use shelf::SLOTS;
-use shelf::entry::{Entry, table_for};
+use shelf::entry::{Entry, entries_for};
 
 // An entry, and where in the pool its text begins.
 #[derive(Clone, Copy, PartialEq, Eq, Default, Debug)]
@@ -18,10 +18,10 @@ pub(crate) struct Slot {
 
 // The slots of a shelf that has just been opened: no text takes a byte.
 pub(crate) fn slots_for(kinds: &[u8]) -> ArrayVec<Slot, SLOTS>
-    ensures entries { entries_of result.items ≡ table_for kinds.now }
+    ensures entries { entries_of result.items ≡ entries_for kinds.now }
     ensures starts { (k : ℕ) → slice_index (starts_of result.items) k ≡ 0 }
 {
-    let entries = table_for(kinds);
+    let entries = entries_for(kinds);
     let mut slots = ArrayVec::new();
     for entry in entries.as_slice() {
         slots.push(Slot {

@@ -1,5 +1,6 @@
 // What is refused, shown with its line and a caret.
 use crate::failure::Failure;
+use crate::output::tell;
 use crate::place::{Excerpt, Spot};
 use card::refusal::CardRefusal;
 use nodes::node::Node;
@@ -13,14 +14,15 @@ fn refuse(
     place: Option<Excerpt<'_>>,
     what: impl fmt::Display + Drop,
 ) -> Failure {
-    let _ = match place {
+    let heap = rt.alloc();
+    let message = match place {
         Some(excerpt) => {
-            let Spot { line, column, .. } = excerpt.spot();
-            eprintln!(rt; "{file}:{line}:{column}: {what}\n{excerpt}")
+            let Spot { line, column, .. } = excerpt.spot;
+            format!(in heap; "{file}:{line}:{column}: {what}\n{excerpt}\n")
         }
-        None => eprintln!(rt; "{file}: {what}"),
+        None => format!(in heap; "{file}: {what}\n"),
     };
-    Failure::Shown
+    tell(rt, message)
 }
 
 pub fn refuse_text(
@@ -31,11 +33,10 @@ pub fn refuse_text(
 ) -> Failure {
     let number = fault.refusal.number();
     let why = fault.refusal;
-    let place = fault.place;
     refuse(
         rt,
         file,
-        Some(Excerpt { text, place }),
+        Some(Excerpt::new(text, fault.place)),
         format_args!("refused with {number}: {why}"),
     )
 }
@@ -50,7 +51,7 @@ pub fn refuse_node(
     let number = fault.refusal.number();
     let why = fault.refusal;
     let node = fault.node;
-    let place = place_of(nodes, node).map(|place| Excerpt { text, place });
+    let place = place_of(nodes, node).map(|place| Excerpt::new(text, place));
     refuse(
         rt,
         file,

@@ -9,6 +9,7 @@ mod input;
 mod listing;
 mod loaded;
 mod options;
+mod output;
 mod place;
 mod play;
 mod script;

@@ -66,19 +66,22 @@ impl fmt::Display for Shown<'_> {
 // The line of a place, and a caret under it.
 #[derive(Clone, Copy)]
 pub struct Excerpt<'a> {
-    pub text: &'a [u8],
-    pub place: usize,
+    text: &'a [u8],
+    pub spot: Spot,
 }
 
-impl Excerpt<'_> {
-    pub fn spot(&self) -> Spot {
-        FIRST.onward(self.text, self.place)
+impl<'a> Excerpt<'a> {
+    pub fn new(text: &'a [u8], place: usize) -> Excerpt<'a> {
+        Excerpt {
+            text,
+            spot: FIRST.onward(text, place),
+        }
     }
 }
 
 impl fmt::Display for Excerpt<'_> {
     fn fmt<W: fmt::Write>(&self, f: &mut fmt::Formatter<W>) -> fmt::Result {
-        let Spot { start, column, .. } = self.spot();
+        let Spot { start, column, .. } = self.spot;
         let line = Shown(line_from(self.text, start));
         let caret = '^';
         write!(f, "  {line}\n  {caret:>column$}")

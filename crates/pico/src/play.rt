@@ -43,10 +43,7 @@ impl About {
     // The line of a statement.
     fn excerpt(&self, node: u16) -> Option<Excerpt<'_>> {
         let place = place_of(self.nodes.as_slice(), node)?;
-        Some(Excerpt {
-            text: self.letters.as_slice(),
-            place,
-        })
+        Some(Excerpt::new(self.letters.as_slice(), place))
     }
 
     // How the player stands, in words.

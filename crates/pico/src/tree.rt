@@ -1,8 +1,8 @@
 // A sheet's declarations, nodes and tree, for a person.
 use crate::failure::Failure;
 use crate::fault::refuse_text;
-use crate::input;
 use crate::place::Shown;
+use crate::{input, output};
 use nodes::kind::Kind;
 use nodes::limits::NODES;
 use nodes::node::{BLANK, Node};
@@ -170,8 +170,7 @@ impl Sheet<'_> {
 
     pub fn show(&self, rt: &HostRuntime) -> Result<(), Failure> {
         let picture = self.drawn(rt.alloc())?;
-        rt.print(picture)?;
-        Ok(())
+        output::print(rt, &picture)
     }
 }
 

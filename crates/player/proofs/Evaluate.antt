@@ -1,8 +1,8 @@
 -- What an expression's node is worth, by what it says.
-use Rattle.std.proofs.Common.{◌≡◌, ℕ, ◌+◌, ◌-◌, ◌<◌, ◌≤◌, Bool, true, false, cond, ltb, leb, ◌⊎◌, List, [], ◌++◌, length, get_or, take, drop, replicate, Some, None, Ok, Err, Option, Result, sym, refl, ap, ◌∙◌, subst, ⊎_elim, append_assoc, arith, length-append, length-take}
+use Rattle.std.proofs.Common.{◌≡◌, ℕ, ◌+◌, ◌-◌, ◌<◌, ◌≤◌, min, Bool, true, false, cond, ltb, leb, ◌⊎◌, List, [], ◌++◌, length, get_or, take, drop, replicate, Some, None, Ok, Err, Option, Result, sym, refl, ap, ◌∙◌, subst, ⊎_elim, append_assoc, arith, length-append, length-take}
 use Rattle.std.proofs.lemmas.List.{get_or_past, take_at, append-nil}
 use Rattle.std.proofs.lemmas.Bool.{cond-true, cond-false, lt-ltb, le-ltb, le-leb, lt-leb, ltb-true, ltb-false, cases_lt}
-use Rattle.std.specs.Option.{SomeIff, ok_or}
+use Rattle.std.specs.Option.{ok_or}
 use Rattle.std.specs.Result.{IsErrAnd, IsOkAnd, MatchResult, result_unwrap_or}
 use Rattle.nodes.specs.Nodes.{view_at, kinds, integer, string}
 use Rattle.nodes.specs.declared.view.View.{View}
@@ -23,7 +23,7 @@ use Rattle.semantics.specs.Syntax.{Expr, var, num, str, plus, conc, expression}
 use Rattle.semantics.specs.Expressions.{added, joined, value}
 use Rattle.semantics.specs.Calls.{seen_as, seen}
 use Rattle.semantics.proofs.Expressions.{Fine, expression_fine, expression_is, build}
-use Rattle.player.specs.Evaluation.{Computed, numbered, sum_of, ending, Appended, Spelled, spelling}
+use Rattle.player.specs.Evaluation.{Computed, numbered, limited, ending, Appended, Spelled, spelling}
 use Rattle.nodes.specs.declared.view.View.TheVariants as V
 
 -- numbers
@@ -47,14 +47,24 @@ pub handed_on : {A : Type 0} (r : Result A Cause) (c : Cause) → IsErrAnd r (λ
 handed_on (Ok a) c h = absurd h
 handed_on (Err x) c h = ap (λ y. Err y) h
 
--- the same, as code adds: checked, or too large
-pub checked_sum : (m n : ℕ) (o : Option ℕ) → SomeIff o (m + n < 4294967296) (m + n) → ok_or o SumTooLarge ≡ sum_of m n
-checked_sum m n None h = ⊎_elim (λ (l : m + n < 4294967296). absurd (h l)) (λ (l : 4294967296 ≤ m + n). sym (cond-true (ltb 4294967295 (m + n)) (Err SumTooLarge) (Ok (m + n)) (lt-ltb 4294967295 (m + n) (omega arith)))) (cases_lt (m + n) 4294967296)
-checked_sum m n (Some x) h = let l = h.0 in ap (λ y. Ok y) h.1 ∙ sym (cond-false (ltb 4294967295 (m + n)) (Err SumTooLarge) (Ok (m + n)) (le-ltb 4294967295 (m + n) (omega arith)))
+-- a sum, held against the largest number
+limited_small : (n : ℕ) → n ≤ largest → limited n ≡ Ok n
+limited_small n h = cond-false (ltb largest n) (Err SumTooLarge) (Ok n) (le-ltb largest n h)
 
-pub sum_summed : (m n : ℕ) → sum_of m n ≡ summed (Ok m) (Ok n)
+limited_large : (n : ℕ) → largest < n → limited n ≡ Err SumTooLarge
+limited_large n h = cond-true (ltb largest n) (Err SumTooLarge) (Ok n) (lt-ltb largest n h)
+
+-- what two parts come to, up to a number far beyond the largest
+pub limited_added : (m n z : ℕ) → z ≡ min (m + n) 18446744073709551615 → limited z ≡ summed (limited m) (limited n)
 unfolding summed
-sum_summed m n = refl
+limited_added m n z e =
+    ⊎_elim
+    (λ (h : largest < m). limited_large z (omega arith) ∙ ap (λ r. summed r (limited n)) (sym (limited_large m h)))
+    (λ (h : m ≤ largest). ⊎_elim
+    (λ (k : largest < n). limited_large z (omega arith) ∙ ap (λ r. summed (Ok m) r) (sym (limited_large n k)) ∙ ap (λ r. summed r (limited n)) (sym (limited_small m h)))
+    (λ (k : n ≤ largest). ap limited (omega arith) ∙ ap (λ r. summed (Ok m) r) (sym (limited_small n k)) ∙ ap (λ r. summed r (limited n)) (sym (limited_small m h)))
+    (cases_lt largest n))
+    (cases_lt largest m)
 
 past_zero : (vs : List Value) (c : ℕ) → ltb c (length vs) ≡ false → get_or vs c (number 0) ≡ number 0
 past_zero vs c e = get_or_past vs c (number 0) (ltb-false c (length vs) e)
@@ -272,25 +282,16 @@ module _ (d : Deck) (i : ℕ) (x : View) (ex : x ≡ view_at (sheet_of d).nodes 
     numbered_as : (w : View) → x ≡ w → numbered (value vs (expression (sheet_of d) i)) ≡ numbered (value vs (build (sheet_of d).letters (expression (sheet_of d)) w))
     numbered_as w e = ap numbered (value_as w e)
 
-    pub amount_variable : (p s n y : ℕ) → x ≡ V.Variable p s n → y ≡ num_of (get_or vs n (number 0)) → Ok y ≡ numbered (value vs (expression (sheet_of d) i))
-    amount_variable p s n y e q = ap (λ z. Ok z) q ∙ sym (numbered_as (V.Variable p s n) e)
+    pub sum_variable : (p s n y : ℕ) → x ≡ V.Variable p s n → y ≤ largest → y ≡ num_of (get_or vs n (number 0)) → limited y ≡ numbered (value vs (expression (sheet_of d) i))
+    sum_variable p s n y e h q = limited_small y h ∙ ap (λ z. Ok z) q ∙ sym (numbered_as (V.Variable p s n) e)
 
-    pub amount_number : (n : ℕ) → x ≡ V.Number n → Ok n ≡ numbered (value vs (expression (sheet_of d) i))
-    amount_number n e = sym (numbered_as (V.Number n) e)
+    pub sum_number : (n y : ℕ) → x ≡ V.Number n → y ≤ largest → y ≡ n → limited y ≡ numbered (value vs (expression (sheet_of d) i))
+    sum_number n y e h q = limited_small y h ∙ ap (λ z. Ok z) q ∙ sym (numbered_as (V.Number n) e)
 
-    pub amount_plus : (a b : ℕ) (r m n : Result ℕ Cause) → x ≡ V.Plus a b → m ≡ numbered (value vs (expression (sheet_of d) a)) → n ≡ numbered (value vs (expression (sheet_of d) b)) → r ≡ summed m n → r ≡ numbered (value vs (expression (sheet_of d) i))
-    amount_plus a b r m n k e f q =
-        q ∙ ap (λ y. summed y n) e ∙ ap (λ z. summed (numbered (value vs (expression (sheet_of d) a))) z) f
+    pub sum_plus : (a b m n z : ℕ) → x ≡ V.Plus a b → limited m ≡ numbered (value vs (expression (sheet_of d) a)) → limited n ≡ numbered (value vs (expression (sheet_of d) b)) → z ≡ min (m + n) 18446744073709551615 → limited z ≡ numbered (value vs (expression (sheet_of d) i))
+    sum_plus a b m n z k e f q =
+        limited_added m n z q ∙ ap (λ y. summed y (limited n)) e ∙ ap (λ y. summed (numbered (value vs (expression (sheet_of d) a))) y) f
         ∙ sym (numbered_as (V.Plus a b) k ∙ numbered_added (value vs (expression (sheet_of d) a)) (value vs (expression (sheet_of d) b)))
-
-    -- where a part of it stops
-    pub amount_right : (a b m : ℕ) (c : Cause) → x ≡ V.Plus a b → Ok m ≡ numbered (value vs (expression (sheet_of d) a)) → Err c ≡ numbered (value vs (expression (sheet_of d) b)) → Err c ≡ numbered (value vs (expression (sheet_of d) i))
-    unfolding summed
-    amount_right a b m c k e f = amount_plus a b (Err c) (Ok m) (Err c) k e f refl
-
-    pub amount_stopped : (a b : ℕ) (c : Cause) → x ≡ V.Plus a b → Err c ≡ numbered (value vs (expression (sheet_of d) a)) → Err c ≡ numbered (value vs (expression (sheet_of d) i))
-    unfolding summed
-    amount_stopped a b c k e = amount_plus a b (Err c) (Err c) (numbered (value vs (expression (sheet_of d) b))) k e refl refl
 
     -- a node that is no expression
     rest_as : (w : View) → x ≡ w → ((p s n : ℕ) → x ≡ V.Variable p s n → ⊥) → ((n : ℕ) → x ≡ V.Number n → ⊥) → ((p s : ℕ) → x ≡ V.Text p s → ⊥) → ((a b : ℕ) → x ≡ V.Plus a b → ⊥) → ((a b : ℕ) → x ≡ V.Conc a b → ⊥) → value vs (build (sheet_of d).letters (expression (sheet_of d)) w) ≡ Ok (number 0)
@@ -307,8 +308,8 @@ module _ (d : Deck) (i : ℕ) (x : View) (ex : x ≡ view_at (sheet_of d).nodes 
     rest_as V.Empty e hv hn ht hp hc = refl
     rest_as V.Unknown e hv hn ht hp hc = refl
 
-    pub amount_rest : (kind_in (kinds (sheet_of d)) (view_at (sheet_of d).nodes i) ≡ string → ⊥) → ((p s n : ℕ) → x ≡ V.Variable p s n → ⊥) → ((n : ℕ) → x ≡ V.Number n → ⊥) → ((a b : ℕ) → x ≡ V.Plus a b → ⊥) → Ok 0 ≡ numbered (value vs (expression (sheet_of d) i))
-    amount_rest t hv hn hp =
+    pub sum_rest : (kind_in (kinds (sheet_of d)) (view_at (sheet_of d).nodes i) ≡ string → ⊥) → ((p s n : ℕ) → x ≡ V.Variable p s n → ⊥) → ((n : ℕ) → x ≡ V.Number n → ⊥) → ((a b : ℕ) → x ≡ V.Plus a b → ⊥) → limited 0 ≡ numbered (value vs (expression (sheet_of d) i))
+    sum_rest t hv hn hp =
         sym (ap numbered (value_as x refl ∙ rest_as x refl hv hn (λ p s e. t (kind_as (V.Text p s) e)) hp (λ a b e. t (kind_as (V.Conc a b) e))))
 
     -- texts

@@ -134,22 +134,22 @@ ready_some sh ts s h e =
     let p = and_parts (leb 1 (length ts)) (eqb (node_at sh.nodes (get_or ts (length ts - 1) 0)).kind 10) (ap (front_right sh ts) (sym e) ∙ h) in
     (leb-true 1 (length ts) p.0, eqb-true _ 10 p.1)
 
+pub some : (c : Course) → c.status ≡ Ready → 0 < depth_of c
+some c ready = (ready_some (sheet_of c.deck) c.todo.items c.status c.front ready).0
+
 -- the front series replaced, and one more before it
 module _ (c : Course) (ready : c.status ≡ Ready) (x : ℕ) (fx : reaches (sheet_of c.deck) x (16 - (depth_of c - 1)) ≡ true) (ws : List ℕ) (ew : ws ≡ take (depth_of c - 1) c.todo.items) where
-  some : 0 < depth_of c
-  some = (ready_some (sheet_of c.deck) c.todo.items c.status c.front ready).0
-
   long : length (take (depth_of c - 1) c.todo.items) ≡ depth_of c - 1
   long = let l = length-take (depth_of c - 1) c.todo.items in omega arith
 
   put_stacked : Stacked (sheet_of c.deck) (take (depth_of c - 1) c.todo.items ++ x ∷ [])
-  put_stacked = let d = c.deep in let h = some in stacked_push (sheet_of c.deck) (take (depth_of c - 1) c.todo.items) (depth_of c - 1) x long (fewer (sheet_of c.deck) c.todo.items c.stacked (depth_of c - 1)) (omega arith) fx
+  put_stacked = let d = c.deep in let h = some c ready in stacked_push (sheet_of c.deck) (take (depth_of c - 1) c.todo.items) (depth_of c - 1) x long (fewer (sheet_of c.deck) c.todo.items c.stacked (depth_of c - 1)) (omega arith) fx
 
   put_reverse : reverse (take (depth_of c - 1) c.todo.items ++ x ∷ []) ≡ x ∷ behind c
   put_reverse = reverse-append (take (depth_of c - 1) c.todo.items) (x ∷ [])
 
   put_long : length (take (depth_of c - 1) c.todo.items ++ x ∷ []) ≡ depth_of c
-  put_long = let l = long in let h = some in let m = length_push (take (depth_of c - 1) c.todo.items) x in omega arith
+  put_long = let l = long in let h = some c ready in let m = length_push (take (depth_of c - 1) c.todo.items) x in omega arith
 
   module _ (vs : List ℕ) (ev : vs ≡ ws ++ x ∷ []) where
     put_is : vs ≡ take (depth_of c - 1) c.todo.items ++ x ∷ []

@@ -28,8 +28,8 @@ numbered (Ok u) = Ok (num_of u)
 numbered (Err c) = Err c
 
 -- a sum, if it is a number
-abbrev pub sum_of : ℕ → ℕ → Result ℕ Cause
-sum_of x y = cond (nat_lt largest (x + y)) (Err SumTooLarge) (Ok (x + y))
+abbrev pub limited : ℕ → Result ℕ Cause
+limited n = cond (nat_lt largest n) (Err SumTooLarge) (Ok n)
 
 -- where a text that begins at the place at ends, if the line is long enough
 abbrev pub ending : ℕ → ℕ → Option ℕ

@@ -12,9 +12,9 @@ use Rattle.shelf.specs.declared.entry.Entry.TheVariants.{Number, Text}
 use Rattle.shelf.specs.Limits.{longest, most_slots}
 use Rattle.shelf.specs.Value.{Value, number, text, total}
 use Rattle.shelf.specs.Calls.{fresh}
-use Rattle.shelf.specs.Entries.{value_at, laid, table_for}
+use Rattle.shelf.specs.Entries.{value_at, laid, too_large, entries_for}
 use Rattle.shelf.proofs.Values.{bounded_set, total_bounded}
-use Rattle.shelf.proofs.Entries.{get_d_laid, laid_set, laid_fresh, extent_within, Roomy, table_all}
+use Rattle.shelf.proofs.Entries.{get_d_laid, laid_set, laid_fresh, extent_within, Roomy, entries_all}
 use Rattle.rows.specs.declared.rows.Rows.{Rows}
 use Rattle.rows.specs.Model.{row, list_of}
 use Rattle.rows.specs.Kept.{length_list, bounded_list}
@@ -33,6 +33,9 @@ row_at es i h = rows_before (take i es) ∙ ap (λ n. longest * n) (length-take-
 -- the memory has a row for each slot
 pub rows_fit : (s : Rows) → longest * s.slots ≤ vec_len s.memory
 rows_fit s = omega (arith, mul-div-le (vec_len s.memory) longest)
+
+pub text_short : (s : Rows) (i n : ℕ) → get_or s.entries.items i (Number 0) ≡ Text n → n ≤ longest
+text_short s i n e = extent_within (Text n) (ap too_large (sym e) ∙ s.within i)
 
 module _ (s : Rows) (i : ℕ) (l : i < array_vec_len s.entries) where
   pub row_fits : longest * i + longest ≤ vec_len s.memory
@@ -83,9 +86,9 @@ pub new_list : (s : Rows) → s.entries.items ≡ [] → list_of s ≡ []
 unfolding list_of
 new_list s e = ap (λ es. laid row es (vec_items s.memory)) e
 
-pub opened_list : (t : Rows) (ks : List ℕ) → length ks ≤ most_slots → t.entries.items ≡ table_for ks → list_of t ≡ map fresh ks
+pub opened_list : (t : Rows) (ks : List ℕ) → length ks ≤ most_slots → t.entries.items ≡ entries_for ks → list_of t ≡ map fresh ks
 unfolding list_of
 opened_list t ks h e =
-    let a = table_all ks h in
+    let a = entries_all ks h in
     let b = laid_fresh row ks (vec_items t.memory) in
     cc

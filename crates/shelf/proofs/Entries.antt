@@ -1,6 +1,6 @@
 -- What a table of entries and the bytes of their texts stand for, read and changed.
-use Rattle.std.proofs.Common.{◌≡◌, ℕ, zero, suc, ◌+◌, ◌<◌, ◌≤◌, true, false, cond, eqb, List, [], ◌∷◌, map, length, get_or, take, drop, set, sum_by, sym, refl, ap, ◌∙◌, zero-add, arith, length-drop, length-take, ltb-false}
-use Rattle.std.proofs.lemmas.List.{take_all, take-take, drop-take, drop-drop, length-take-le}
+use Rattle.std.proofs.Common.{◌≡◌, ℕ, zero, suc, ◌+◌, ◌-◌, ◌<◌, ◌≤◌, min, true, false, cond, eqb, List, [], ◌∷◌, ◌++◌, map, length, get_or, take, drop, set, replicate, sum_by, sym, refl, ap, ◌∙◌, zero-add, arith, length-append, length-drop, length-take, ltb-false}
+use Rattle.std.proofs.lemmas.List.{take_all, take-take, drop-take, drop-drop, drop-set-lt, take_more_set, map_more, take-append-drop, drop-replicate, length-take-le, take_at, length-map, length-replicate}
 use Rattle.std.proofs.lemmas.List.Sums.{sum_by-cons}
 use Rattle.std.proofs.lemmas.Bool.{le-ltb}
 use Rattle.shelf.specs.declared.entry.Entry.{Entry}
@@ -8,12 +8,42 @@ use Rattle.shelf.specs.declared.entry.Entry.TheVariants.{Number, Text}
 use Rattle.shelf.specs.Limits.{most_slots, longest}
 use Rattle.shelf.specs.Value.{Value, number, text, bytes_of, total, over}
 use Rattle.shelf.specs.Calls.{fresh}
-use Rattle.shelf.specs.Entries.{extent, value_at, laid, too_large, Within, entry_for, table_for}
+use Rattle.shelf.specs.Entries.{extent, value_at, laid, too_large, Within, entry_for, table_for, entries_for}
 use Rattle.shelf.proofs.Values.{Bounded}
+use Rattle.shelf.proofs.Lists.{take_min}
 
--- the table for as many kinds as there can be slots
-pub table_all : (ks : List ℕ) → length ks ≤ most_slots → table_for ks ≡ map entry_for ks
-table_all ks h = ap (map entry_for) (take_all most_slots ks h)
+-- the table for a list of kinds, built entry by entry
+
+pub table_more : (es : List Entry) (ks : List ℕ) (i : ℕ) (e : Entry) → length es ≡ most_slots → i < most_slots → i < length ks → e ≡ entry_for (get_or ks i 0) → take i es ≡ map entry_for (take i ks) → drop i es ≡ replicate (most_slots - i) (Number 0) → (take (i + 1) (set es i e) ≡ map entry_for (take (i + 1) ks)) × (drop (i + 1) (set es i e) ≡ replicate (most_slots - (i + 1)) (Number 0))
+table_more es ks i e n l h q a b =
+    let t = take_more_set es i e (omega arith) in
+    let m = map_more entry_for ks i 0 h in
+    let d = drop-set-lt (i + 1) es i e (omega arith) in
+    let d1 = drop-drop 1 i es in
+    let d2 = ap (drop 1) b in
+    let d3 = drop-replicate 1 (most_slots - i) (Number 0) in
+    let z : most_slots - i - 1 ≡ most_slots - (i + 1) = omega arith in
+    (cc, cc)
+
+pub table_done : (es : List Entry) (ks : List ℕ) (i : ℕ) → i ≡ min (length ks) most_slots → take i es ≡ map entry_for (take i ks) → drop i es ≡ replicate (most_slots - i) (Number 0) → es ≡ table_for ks
+table_done es ks i q a b =
+    let s = take-append-drop i es in
+    let t : take i ks ≡ take most_slots ks = ap (λ j. take j ks) q ∙ take_min ks most_slots in
+    let z : most_slots - i ≡ most_slots - length ks = omega arith in
+    cc
+
+pub take_table : (ks : List ℕ) → length ks ≤ most_slots → take (length ks) (table_for ks) ≡ map entry_for ks
+take_table ks h =
+    let a = take_all most_slots ks h in
+    ap (λ js. take (length ks) (map entry_for js ++ replicate (most_slots - length ks) (Number 0))) a ∙ take_at (map entry_for ks) (replicate (most_slots - length ks) (Number 0)) (length ks) (length-map ks entry_for)
+
+pub length_table : (ks : List ℕ) → length ks ≤ most_slots → length (table_for ks) ≡ most_slots
+length_table ks h =
+    simp (length-append, length-map, length-take, length-replicate) (omega arith)
+
+-- the entries alone, for as many kinds as there can be slots
+pub entries_all : (ks : List ℕ) → length ks ≤ most_slots → entries_for ks ≡ map entry_for ks
+entries_all ks h = ap (map entry_for) (take_all most_slots ks h)
 
 -- an entry's value
 
@@ -45,11 +75,30 @@ within_set (x ∷ es) zero e w h (suc k) = w (suc k)
 within_set (x ∷ es) (suc i) e w h zero = w zero
 within_set (x ∷ es) (suc i) e w h (suc k) = within_set es i e (λ j. w (suc j)) h k
 
+pub within_take : (n : ℕ) (es : List Entry) → Within es → Within (take n es)
+within_take zero es w k = refl
+within_take (suc n) [] w k = refl
+within_take (suc n) (x ∷ es) w zero = w zero
+within_take (suc n) (x ∷ es) w (suc k) = within_take n es (λ j. w (suc j)) k
+
 fresh_within : (k : ℕ) → too_large (entry_for k) ≡ false
 fresh_within k = elim (eqb k 1) as (λ b. too_large (cond b (Number 0) (Text 0)) ≡ false) [ true ↦ refl | false ↦ refl ]
 
+pub within_none : (n : ℕ) → Within (replicate n (Number 0))
+within_none zero k = refl
+within_none (suc n) zero = refl
+within_none (suc n) (suc k) = within_none n k
+
 pub within_table : (ks : List ℕ) → Within (table_for ks)
 within_table ks = begun (take most_slots ks)
+  where
+    begun : (js : List ℕ) → Within (map entry_for js ++ replicate (most_slots - length ks) (Number 0))
+    begun [] k = within_none (most_slots - length ks) k
+    begun (j ∷ js) zero = fresh_within j
+    begun (j ∷ js) (suc k) = begun js k
+
+pub within_entries : (ks : List ℕ) → Within (entries_for ks)
+within_entries ks = begun (take most_slots ks)
   where
     begun : (js : List ℕ) → Within (map entry_for js)
     begun [] k = refl

@@ -1,5 +1,5 @@
 -- The list that a table of entries and the bytes of their texts stand for, whatever bytes lie between the texts.
-use Rattle.std.specs.Prelude.{◌≡◌, ℕ, Bool, false, cond, List, [], ◌∷◌, map, take, drop, Ok, Err, Result, ◌==◌, nat_lt, slice_index_or}
+use Rattle.std.specs.Prelude.{◌≡◌, ℕ, ◌-◌, Bool, false, cond, List, [], ◌∷◌, ◌++◌, map, length, take, drop, replicate, Ok, Err, Result, ◌==◌, nat_lt, slice_index_or}
 use Rattle.shelf.specs.declared.entry.Entry.{Entry}
 use Rattle.shelf.specs.declared.entry.Entry.TheVariants.{Number, Text}
 use Rattle.shelf.specs.declared.entry.Held.{Held}
@@ -28,6 +28,11 @@ abbrev pub meant : Held → Value
 meant (H.Number n) = number n
 meant (H.Text b) = text b.now
 
+-- the same, of a text no more than n bytes
+abbrev pub cut_to : ℕ → Held → Value
+cut_to n (H.Number x) = number x
+cut_to n (H.Text b) = text (take n b.now)
+
 -- the answer, with the value in the place of what holds it
 abbrev pub held_as : Result Held Refusal → Result Value Refusal
 held_as (Ok h) = Ok (meant h)
@@ -45,6 +50,10 @@ Within es = (k : ℕ) → too_large (slice_index_or es k (Number 0)) ≡ false
 abbrev pub entry_for : ℕ → Entry
 entry_for k = cond (k == 1) (Number 0) (Text 0)
 
--- the entries for these kinds, as many as there can be slots
+-- a table that begins with the entries for these kinds
 abbrev pub table_for : List ℕ → List Entry
-table_for ks = map entry_for (take most_slots ks)
+table_for ks = map entry_for (take most_slots ks) ++ replicate (most_slots - length ks) (Number 0)
+
+-- the entries for these kinds alone, as many as there can be slots
+abbrev pub entries_for : List ℕ → List Entry
+entries_for ks = map entry_for (take most_slots ks)

@@ -1,9 +1,13 @@
 // Parts from which a make can be built: a table of entries beside the bytes of the texts.
-ghost use Rattle.std.specs.Prelude.{◌≡◌};
+ghost use Rattle.std.specs.Prelude.{◌≡◌, ◌≤◌, length, replicate};
 ghost use Rattle.shelf.specs.declared.entry.Entry.TheVariants.{Number};
-ghost use Rattle.shelf.specs.Entries.{extent, entry_for, table_for};
+ghost use Rattle.shelf.specs.Limits.{most_slots, longest};
+ghost use Rattle.shelf.specs.Value.{bytes_of};
+ghost use Rattle.shelf.specs.Kinds.{kind_held};
+ghost use Rattle.shelf.specs.Calls.{the_number, the_text};
+ghost use Rattle.shelf.specs.Entries.{extent, meant, cut_to, entry_for, table_for, entries_for};
 
-use crate::{Kind, SLOTS};
+use crate::{Kind, LONGEST, Refusal, SLOTS, fill_line};
 use arrayvec::ArrayVec;
 
 // What a slot holds; a text is its length, and the make knows where its bytes are.
@@ -54,9 +58,65 @@ impl Entry {
     }
 }
 
-// The entries for these kinds, as many as there can be slots.
-pub fn table_for(kinds: &[u8]) -> ArrayVec<Entry, SLOTS>
-    ensures { result.items ≡ table_for kinds.now }
+impl Held<'_> {
+    // The kind of what is held.
+    pub fn kind(self) -> Kind
+        ensures { result ≡ kind_held (meant self.entry) }
+    {
+        match self {
+            Held::Number(_) => Kind::Number,
+            Held::Text(_) => Kind::Text,
+        }
+    }
+
+    // The number that is held.
+    pub fn number(self) -> Result<u32, Refusal>
+        ensures { result ≡ the_number (meant self.entry) }
+    {
+        match self {
+            Held::Number(x) => Ok(x),
+            Held::Text(_) => Err(Refusal::OtherKind),
+        }
+    }
+
+    // The length of the text that is held, which then begins the line, as far as it goes, with zeros behind it; at a number the line stays.
+    pub fn text(self, line: &mut [u8; LONGEST]) -> Result<usize, Refusal>
+        ensures answer { result ≡ (the_text (meant self.entry) line.old).answer }
+        ensures cut { line.new ≡ (the_text (cut_to longest self.entry) line.old).line }
+        ensures whole { length (bytes_of (meant self.entry)) ≤ longest → line.new ≡ (the_text (meant self.entry) line.old).line }
+    {
+        match self {
+            Held::Number(_) => Err(Refusal::OtherKind),
+            Held::Text(bytes) => {
+                fill_line(line, bytes);
+                Ok(bytes.len())
+            }
+        }
+    }
+}
+
+// A table that begins with the entries for these kinds.
+pub fn table_for(kinds: &[u8]) -> [Entry; SLOTS]
+    ensures { result ≡ table_for kinds.now }
+{
+    let mut entries = [Entry::Number(0); SLOTS];
+    lay(&mut entries, kinds);
+    entries
+}
+
+// Lays the entries for these kinds over the beginning of a blank table, as far as it goes.
+fn lay(entries: &mut [Entry; SLOTS], kinds: &[u8])
+    requires { entries.old ≡ replicate most_slots (Number 0) }
+    ensures { entries.new ≡ table_for kinds.now }
+{
+    for i in 0..kinds.len().min(SLOTS) {
+        entries[i] = Entry::fresh(kinds[i]);
+    }
+}
+
+// The entries for these kinds alone, as many as there can be slots.
+pub fn entries_for(kinds: &[u8]) -> ArrayVec<Entry, SLOTS>
+    ensures { result.items ≡ entries_for kinds.now }
 {
     let mut entries = ArrayVec::new();
     for kind in &kinds[..kinds.len().min(SLOTS)] {

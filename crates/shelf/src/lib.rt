@@ -6,10 +6,8 @@ ghost use Rattle.shelf.specs.Limits.{longest};
 ghost use Rattle.shelf.specs.Laws.{Laws};
 ghost use Rattle.shelf.specs.Value.{Value};
 ghost use Rattle.shelf.specs.Kinds.{kind_at, kind_number};
-ghost use Rattle.shelf.specs.Entries.{held_as};
-ghost use Rattle.shelf.specs.Calls.{open_told, open_list, number_answer, number_put, text_answer, text_put, known, all_kinds, held_told, kind_told, number_told, text_told, line_of};
+ghost use Rattle.shelf.specs.Calls.{open_told, open_list, number_answer, number_put, text_answer, text_put, known, all_kinds, kind_told, number_told, text_told, line_of};
 
-use crate::entry::Held;
 pub use crate::kind::Kind;
 pub use crate::refusal::Refusal;
 
@@ -56,45 +54,20 @@ pub trait Shelf: Sized {
         ensures slots_stay { slots self.new ≡ slots self.old }
         ensures capacity_stays { capacity self.new ≡ capacity self.old };
 
-    // What the entry at i holds.
-    fn held(&self, i: usize) -> Result<Held<'_>, Refusal>
-        ensures { held_as result ≡ held_told i (values self.now) };
-
     // The kind of the entry at i.
     fn kind(&self, i: usize) -> Result<Kind, Refusal>
         ensures kind { result ≡ kind_at i (values self.now) }
-        ensures told { kind_number result ≡ kind_told i (values self.now) }
-    {
-        match self.held(i)? {
-            Held::Number(_) => Ok(Kind::Number),
-            Held::Text(_) => Ok(Kind::Text),
-        }
-    }
+        ensures told { kind_number result ≡ kind_told i (values self.now) };
 
     // The number at i.
     fn number(&self, i: usize) -> Result<u32, Refusal>
-        ensures { result ≡ number_told i (values self.now) }
-    {
-        match self.held(i)? {
-            Held::Number(x) => Ok(x),
-            Held::Text(_) => Err(Refusal::OtherKind),
-        }
-    }
+        ensures { result ≡ number_told i (values self.now) };
 
     // The length of the text at i, which then begins the line, with zeros behind it.
     // Stays: the line is the caller's, since the core has no heap, and a refused question leaves it as it was.
     fn text(&self, i: usize, line: &mut [u8; LONGEST]) -> Result<usize, Refusal>
         ensures answer { result ≡ (text_told i (values self.now) line.old).answer }
-        ensures line { line.new ≡ (text_told i (values self.now) line.old).line }
-    {
-        match self.held(i)? {
-            Held::Number(_) => Err(Refusal::OtherKind),
-            Held::Text(bytes) => {
-                fill_line(line, bytes);
-                Ok(bytes.len())
-            }
-        }
-    }
+        ensures line { line.new ≡ (text_told i (values self.now) line.old).line };
 
     // How many entries there can be.
     fn slots(&self) -> usize

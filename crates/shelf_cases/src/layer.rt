@@ -2,7 +2,6 @@
 ghost use Rattle.std.specs.Prelude.{◌≡◌};
 ghost use Rattle.shelf_cases.specs.Through.{through};
 
-use shelf::entry::Held;
 use shelf::{Kind, LONGEST, Refusal, Shelf};
 
 #[derive(Drop)]
@@ -44,10 +43,6 @@ impl<S: Shelf> Shelf for Layer<S> {
 
     fn put_text(&mut self, i: usize, bytes: &[u8]) -> Result<(), Refusal> {
         self.below.put_text(i, bytes)
-    }
-
-    fn held(&self, i: usize) -> Result<Held<'_>, Refusal> {
-        self.below.held(i)
     }
 
     fn kind(&self, i: usize) -> Result<Kind, Refusal> {

@@ -10,6 +10,9 @@ use crate::word::{Fault, Fixed, Refusal, Token, Word};
 // The longest text constant, in bytes.
 pub const LONGEST: usize = 80;
 
+// The largest number.
+pub const LARGEST: u64 = 4294967295;
+
 // A run of letters and digits: a keyword, or else a name.
 fn named<'a>(spelling: &'a [u8], place: usize, next: usize, token: &mut Token<'a>)
     ensures is { meant token.new.word ≡ named-as spelling.now (keyword spelling.now) }
@@ -35,8 +38,11 @@ fn name_at<'a>(text: &'a [u8], at: usize, token: &mut Token<'a>)
 fn with_digit(v: u32, digit: u8) -> Option<u32>
     ensures { result ≡ limited (v * 10 + (digit - 48)) }
 {
-    v.checked_mul(10)?
-        .checked_add(u32::from(digit.saturating_sub(b'0')))
+    let more = u64::from(v) * 10 + u64::from(digit.saturating_sub(b'0'));
+    if more > LARGEST {
+        return None;
+    }
+    Some(more as u32)
 }
 
 // The number that the digits spell, where it is no larger than a number may be.

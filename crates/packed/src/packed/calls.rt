@@ -3,9 +3,9 @@ ghost use Rattle.shelf.specs.declared.entry.Entry.TheVariants.{Number};
 ghost use Rattle.shelf.specs.declared.refusal.Refusal.TheVariants.{NoEntry};
 ghost use Rattle.arrayvec.specs.ArrayVec.{array_vec_len};
 ghost use Rattle.shelf.specs.Limits.{most_slots, longest};
-ghost use Rattle.shelf.specs.Value.{number, text, total};
-ghost use Rattle.shelf.specs.Calls.{fresh};
-ghost use Rattle.shelf.specs.Entries.{extent, value_at, too_large};
+ghost use Rattle.shelf.specs.Value.{number, text, bytes_of, total};
+ghost use Rattle.shelf.specs.Calls.{fresh, held_told};
+ghost use Rattle.shelf.specs.Entries.{extent, value_at, too_large, meant, held_as};
 ghost use Rattle.packed.specs.Capacity.{capacity_of};
 ghost use Rattle.packed.specs.Slots.{entries_of};
 ghost use Rattle.packed.specs.Model.{list_of};
@@ -16,7 +16,7 @@ use crate::packed::pool;
 use crate::slot::{Slot, shift, slots_for};
 use arrayvec::ArrayVec;
 use shelf::entry::{Entry, Held};
-use shelf::{LONGEST, Refusal, SLOTS, Shelf};
+use shelf::{Kind, LONGEST, Refusal, SLOTS, Shelf};
 
 // The most bytes of all texts together: more could not be on a shelf.
 const MOST_BYTES: usize = SLOTS * LONGEST;
@@ -79,6 +79,18 @@ impl Packed {
         ensures start { result.start ≡ sum_by extent (take i (entries_of self.now.slots.items)) }
     {
         self.slots[i]
+    }
+
+    // What the entry at i holds.
+    pub fn held(&self, i: usize) -> Result<Held<'_>, Refusal>
+        ensures told { held_as result ≡ held_told i (list_of self.now) }
+        ensures short { IfOk result (λ h. length (bytes_of (meant h)) ≤ longest) }
+    {
+        let Slot { entry, start } = self.slot(i)?;
+        match entry {
+            Entry::Number(x) => Ok(Held::Number(x)),
+            Entry::Text(len) => Ok(Held::Text(&self.pool[start..start + len])),
+        }
     }
 
     // The bytes of all texts, this one in the place of the one at i.
@@ -178,12 +190,16 @@ impl Shelf for Packed {
         Ok(())
     }
 
-    fn held(&self, i: usize) -> Result<Held<'_>, Refusal> {
-        let Slot { entry, start } = self.slot(i)?;
-        match entry {
-            Entry::Number(x) => Ok(Held::Number(x)),
-            Entry::Text(len) => Ok(Held::Text(&self.pool[start..start + len])),
-        }
+    fn kind(&self, i: usize) -> Result<Kind, Refusal> {
+        Ok(self.held(i)?.kind())
+    }
+
+    fn number(&self, i: usize) -> Result<u32, Refusal> {
+        self.held(i)?.number()
+    }
+
+    fn text(&self, i: usize, line: &mut [u8; LONGEST]) -> Result<usize, Refusal> {
+        self.held(i)?.text(line)
     }
 
     fn slots(&self) -> usize {

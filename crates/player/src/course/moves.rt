@@ -1,5 +1,6 @@
 // How a course goes on.
-ghost use Rattle.std.specs.Prelude.{◌≡◌, ◌-◌, [], ◌∷◌, length};
+ghost use Rattle.std.specs.Prelude.{◌≡◌, ◌-◌, ◌<◌, [], ◌∷◌, ◌++◌, length, take};
+ghost use Rattle.arrayvec.specs.ArrayVec.{array_vec_len};
 ghost use Rattle.nodes.specs.Nodes.{view_at};
 ghost use Rattle.deck.specs.Sheets.{sheet_of};
 ghost use Rattle.semantics.specs.Semantics.{full};
@@ -46,6 +47,15 @@ fn settle(deck: &Deck, todo: &mut ArrayVec<u16, DEPTH>) -> Status
         todo.pop();
     }
     Status::Ended
+}
+
+// Puts a series in the place of the front one.
+fn replace(todo: &mut ArrayVec<u16, DEPTH>, series: u16)
+    requires { 0 < array_vec_len todo.old }
+    ensures { todo.new.items ≡ take (array_vec_len todo.old - 1) todo.old.items ++ series ∷ [] }
+{
+    let front = todo.len() - 1;
+    todo[front] = series;
 }
 
 impl Course {
@@ -101,8 +111,7 @@ impl Course {
         requires { Fits self.old rest }
         ensures { Moved self.old.deck self.new (rest ∷ behind self.old) }
     {
-        self.todo.pop();
-        self.todo.push(rest);
+        replace(&mut self.todo, rest);
         self.status = settle(&self.deck, &mut self.todo);
     }
 
@@ -111,8 +120,7 @@ impl Course {
         requires { Enters self.old under body }
         ensures { Moved self.old.deck self.new (body ∷ under ∷ behind self.old) }
     {
-        self.todo.pop();
-        self.todo.push(under);
+        replace(&mut self.todo, under);
         self.todo.push(body);
         self.status = settle(&self.deck, &mut self.todo);
     }

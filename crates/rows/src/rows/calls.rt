@@ -3,8 +3,9 @@ ghost use Rattle.arrayvec.specs.ArrayVec.{array_vec_len};
 ghost use Rattle.shelf.specs.declared.entry.Entry.TheVariants.{Number};
 ghost use Rattle.shelf.specs.declared.refusal.Refusal.TheVariants.{NoEntry};
 ghost use Rattle.shelf.specs.Limits.{longest};
-ghost use Rattle.shelf.specs.Value.{number, text, total};
-ghost use Rattle.shelf.specs.Calls.{fresh};
+ghost use Rattle.shelf.specs.Value.{number, text, bytes_of, total};
+ghost use Rattle.shelf.specs.Calls.{fresh, held_told};
+ghost use Rattle.shelf.specs.Entries.{meant, held_as};
 ghost use Rattle.rows.specs.Slots.{slots_of};
 ghost use Rattle.rows.specs.Model.{list_of};
 ghost use Rattle.rows.specs.Kept.{rows_laws};
@@ -12,7 +13,7 @@ ghost use Rattle.rows.specs.Kept.{rows_laws};
 use super::Rows;
 use arrayvec::ArrayVec;
 use shelf::entry::{Entry, Held};
-use shelf::{LONGEST, Refusal, SLOTS, Shelf};
+use shelf::{Kind, LONGEST, Refusal, SLOTS, Shelf};
 
 // Stays: `new`, `empty` and `into_memory` are like those of `packed`, but promise slots where those promise a capacity.
 impl Rows {
@@ -63,13 +64,27 @@ impl Rows {
         self.entries.get(i).copied().ok_or(Refusal::NoEntry)
     }
 
+    // What the entry at i holds.
+    pub fn held(&self, i: usize) -> Result<Held<'_>, Refusal>
+        ensures told { held_as result ≡ held_told i (list_of self.now) }
+        ensures short { IfOk result (λ h. length (bytes_of (meant h)) ≤ longest) }
+    {
+        match self.entry(i)? {
+            Entry::Number(x) => Ok(Held::Number(x)),
+            Entry::Text(len) => {
+                let at = LONGEST * i;
+                Ok(Held::Text(&self.memory[at..at + len]))
+            }
+        }
+    }
+
     // Makes the list anew.
     fn lay_out(&mut self, kinds: &[u8])
         requires { length kinds.now ≤ self.old.slots }
         ensures list { list_of self.new ≡ map fresh kinds.now }
         ensures slots { self.new.slots ≡ self.old.slots }
     {
-        self.entries = shelf::entry::table_for(kinds);
+        self.entries = shelf::entry::entries_for(kinds);
     }
 
     // Sets the value at i to a number.
@@ -126,14 +141,16 @@ impl Shelf for Rows {
         Ok(())
     }
 
-    fn held(&self, i: usize) -> Result<Held<'_>, Refusal> {
-        match self.entry(i)? {
-            Entry::Number(x) => Ok(Held::Number(x)),
-            Entry::Text(len) => {
-                let at = LONGEST * i;
-                Ok(Held::Text(&self.memory[at..at + len]))
-            }
-        }
+    fn kind(&self, i: usize) -> Result<Kind, Refusal> {
+        Ok(self.held(i)?.kind())
+    }
+
+    fn number(&self, i: usize) -> Result<u32, Refusal> {
+        self.held(i)?.number()
+    }
+
+    fn text(&self, i: usize, line: &mut [u8; LONGEST]) -> Result<usize, Refusal> {
+        self.held(i)?.text(line)
     }
 
     fn slots(&self) -> usize {

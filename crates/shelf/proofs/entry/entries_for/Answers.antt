@@ -2,7 +2,7 @@ use Rattle.std.proofs.Common.{◌≡◌, min, map, length, take, ap, ◌∙◌, 
 use Rattle.shelf.specs.Limits.{most_slots}
 use Rattle.shelf.specs.Entries.{entry_for}
 use Rattle.shelf.proofs.Lists.{take_min}
-use Rattle.shelf.proofs.entry.table_for.Goals as goal
+use Rattle.shelf.proofs.entry.entries_for.Goals as goal
 
 pub returns : goal.returns
 returns c =

@@ -105,6 +105,7 @@ pub fn table_for(kinds: &[u8]) -> [Entry; SLOTS]
 }
 
 // Lays the entries for these kinds over the beginning of a blank table, as far as it goes.
+// Stays: by index, beside `entries_for`, since the whole table is offered to whoever writes a make; of what a `zip` of `iter_mut` lends a proof knows nothing.
 fn lay(entries: &mut [Entry; SLOTS], kinds: &[u8])
     requires { entries.old ≡ replicate most_slots (Number 0) }
     ensures { entries.new ≡ table_for kinds.now }

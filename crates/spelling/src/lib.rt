@@ -23,12 +23,19 @@ fn part_is(letters: &[u8], place: usize, size: usize, spelling: &[u8]) -> bool
     }
 }
 
-// What the first entry with this spelling stands for. An entry outside the letters matches nothing.
-pub fn find<T: Copy>(letters: &[u8], entries: &[Entry<T>], spelling: &[u8]) -> Option<T>
+// What the first entry that spells this stands for.
+fn first<T: Copy>(letters: &[u8], entries: &[Entry<T>], spelling: &[u8]) -> Option<T>
     ensures { result ≡ found letters.now spelling.now entries.now }
 {
     entries
         .iter()
         .find(|e| part_is(letters, e.place, e.size, spelling))
         .map(|e| e.value)
+}
+
+// What the first entry with this spelling stands for. An entry outside the letters matches nothing.
+pub fn find<T: Copy>(letters: &[u8], entries: &[Entry<T>], spelling: &[u8]) -> Option<T>
+    ensures { result ≡ found letters.now spelling.now entries.now }
+{
+    first(letters, entries, spelling)
 }

@@ -81,16 +81,28 @@ impl Packed {
         self.slots[i]
     }
 
+    // What entry i, which is there and in this slot, holds; a text lies behind its start.
+    fn lend(&self, i: usize, slot: Slot) -> Held<'_>
+        requires inside { i < array_vec_len self.now.slots }
+        requires entry { slot.entry ≡ slice_index_or (entries_of self.now.slots.items) i (Number 0) }
+        requires start { slot.start ≡ sum_by extent (take i (entries_of self.now.slots.items)) }
+        ensures value { slice_index_or (list_of self.now) i (number 0) ≡ meant result }
+        ensures short { length (bytes_of (meant result)) ≤ longest }
+    {
+        let Slot { entry, start } = slot;
+        match entry {
+            Entry::Number(x) => Held::Number(x),
+            Entry::Text(len) => Held::Text(&self.pool[start..start + len]),
+        }
+    }
+
     // What the entry at i holds.
     pub fn held(&self, i: usize) -> Result<Held<'_>, Refusal>
         ensures told { held_as result ≡ held_told i (list_of self.now) }
         ensures short { IfOk result (λ h. length (bytes_of (meant h)) ≤ longest) }
     {
-        let Slot { entry, start } = self.slot(i)?;
-        match entry {
-            Entry::Number(x) => Ok(Held::Number(x)),
-            Entry::Text(len) => Ok(Held::Text(&self.pool[start..start + len])),
-        }
+        let slot = self.slot(i)?;
+        Ok(self.lend(i, slot))
     }
 
     // The bytes of all texts, this one in the place of the one at i.

@@ -64,18 +64,29 @@ impl Rows {
         self.entries.get(i).copied().ok_or(Refusal::NoEntry)
     }
 
+    // What entry i, which is there, holds; a text lies in its row.
+    fn lend(&self, i: usize, entry: Entry) -> Held<'_>
+        requires inside { i < array_vec_len self.now.entries }
+        requires is { slice_index_or self.now.entries.items i (Number 0) ≡ entry }
+        ensures value { slice_index_or (list_of self.now) i (number 0) ≡ meant result }
+        ensures short { length (bytes_of (meant result)) ≤ longest }
+    {
+        match entry {
+            Entry::Number(x) => Held::Number(x),
+            Entry::Text(len) => {
+                let at = LONGEST * i;
+                Held::Text(&self.memory[at..at + len])
+            }
+        }
+    }
+
     // What the entry at i holds.
     pub fn held(&self, i: usize) -> Result<Held<'_>, Refusal>
         ensures told { held_as result ≡ held_told i (list_of self.now) }
         ensures short { IfOk result (λ h. length (bytes_of (meant h)) ≤ longest) }
     {
-        match self.entry(i)? {
-            Entry::Number(x) => Ok(Held::Number(x)),
-            Entry::Text(len) => {
-                let at = LONGEST * i;
-                Ok(Held::Text(&self.memory[at..at + len]))
-            }
-        }
+        let entry = self.entry(i)?;
+        Ok(self.lend(i, entry))
     }
 
     // Makes the list anew.

